@@ -1,0 +1,12 @@
+-- `height::order::height_before` meets its contract: what the answer of `of_heights` says.
+-- Assumes nothing.
+use borrow.Author.Needs.{needs}
+use Rattle.height.proofs.Compare.{is-less}
+use Rattle.height.proofs.order.height_before.Statement.{statement}
+use Rattle.height.proofs.order.height_before.Tie as tie
+
+returns : tie.Need-returns
+returns c = rw (c .is-less .ensures, c .before .of-heights .ensures) (is-less _ _)
+
+pub height-before-spec : {M : Type 1} → statement M
+height-before-spec = tie.close (tie.spec (λ c κs. search needs) (λ c κs. search needs) returns)

@@ -1,0 +1,50 @@
+-- `height::words::load_height` meets its contract: seven words in bounds, one field each.
+-- Assumes nothing.
+use borrow.Author.Needs.{needs}
+use Prim.Native.Nat.{_+_}
+use mir.Syntax.{w32}
+use mir.Val.{SFits}
+use mir.Facts.{toZ-ofZ}
+use Rattle.height.specs.Words.{heightAt}
+use Rattle.height.proofs.WordsLaws.{negated-word}
+use Rattle.height.proofs.words.load_height.Statement.{statement}
+use Rattle.height.proofs.words.load_height.Tie as tie
+
+returns : tie.Need-returns
+unfolding heightAt
+returns c =
+    let d = c .before .before .before .before .delta-of in
+    let n = c .before .before .nlts-of in
+    let fd : SFits w32 (d .result) = search needs in
+    let s = c .before .before .before .before .before .before .before .before .before .before in (
+      rw (toZ-ofZ fd, d .ensures, n .ensures),
+      rw (n .ensures) (negated-word _ (c .before .before .before .shared-slice-known6 .given (s .args .at + 4) .fits)),
+    )
+
+pub load-height-spec : {M : Type 1} → statement M
+load-height-spec =
+    tie.close
+    (tie.spec
+    (λ c. search needs)
+    (λ c. search needs)
+    (λ c. search needs)
+    (λ c. search needs)
+    (λ c. search needs)
+    (λ c. search needs)
+    (λ c. search needs)
+    (λ c. search needs)
+    (λ c. search needs)
+    (λ c. search needs)
+    (λ c. search needs)
+    (λ c κs. search needs)
+    (λ c. search needs)
+    (λ c. search needs)
+    (λ c. search needs)
+    (λ c κs. search needs)
+    (λ c. search needs)
+    (λ c. search needs)
+    (λ c. search needs)
+    (λ c. search needs)
+    (λ c. search needs)
+    (λ c. search needs)
+    returns)

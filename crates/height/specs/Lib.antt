@@ -1,0 +1,5 @@
+-- Definitions that the contracts of `height` cite.
+pub mod Clock
+pub mod Height
+pub mod Order
+pub mod Words

@@ -1,0 +1,139 @@
+// The orders of heights, levels and leader pairs: lexicographic, as signed numbers.
+// Callers use the tests at the end; the cases of `Order` stay in this file.
+ghost use mathlib.Core.Path.{_≡_};
+ghost use mathlib.Core.List.{[], _∷_};
+ghost use lib.IntN.{pos};
+ghost use Rattle.height.specs.Order.{before, same, orderOf, andThen, isLess, isEqual};
+ghost use Rattle.height.specs.Height.{levelKey, pairKey, heightKey};
+use super::Height;
+use super::LeaderPair;
+use super::ReferenceLevel;
+
+pub enum Order {
+    Less,
+    Equal,
+    Greater,
+}
+
+// A number as a signed one.
+fn signed(x: u32) -> i64
+    ensures { λ r. ⌜ r ≡ pos x ⌝ }
+{
+    x as i64
+}
+
+fn widened(x: i32) -> i64
+    ensures { λ r. ⌜ r ≡ x ⌝ }
+{
+    x as i64
+}
+
+// The order of two numbers.
+fn of_numbers(a: i64, b: i64) -> Order
+    ensures { λ r. ⌜ r ≡ orderOf (a ∷ []) (b ∷ []) ⌝ }
+{
+    if a < b {
+        return Order::Less;
+    }
+    if b < a {
+        return Order::Greater;
+    }
+    Order::Equal
+}
+
+// The order of two words.
+fn of_words(a: u32, b: u32) -> Order
+    ensures { λ r. ⌜ r ≡ orderOf (pos a ∷ []) (pos b ∷ []) ⌝ }
+{
+    of_numbers(signed(a), signed(b))
+}
+
+// The first of two that decides.
+fn and_then(first: Order, second: Order) -> Order
+    ensures { λ r. ⌜ r ≡ andThen first second ⌝ }
+{
+    match first {
+        Order::Less => Order::Less,
+        Order::Greater => Order::Greater,
+        Order::Equal => second,
+    }
+}
+
+pub fn of_levels(a: ReferenceLevel, b: ReferenceLevel) -> Order
+    ensures { λ r. ⌜ r ≡ orderOf (levelKey a) (levelKey b) ⌝ }
+{
+    let tau = of_words(a.tau.0, b.tau.0);
+    let oid = of_words(a.oid, b.oid);
+    let r = of_words(a.r, b.r);
+    and_then(tau, and_then(oid, r))
+}
+
+pub fn of_pairs(a: LeaderPair, b: LeaderPair) -> Order
+    ensures { λ r. ⌜ r ≡ orderOf (pairKey a) (pairKey b) ⌝ }
+{
+    let nlts = of_numbers(a.nlts.0, b.nlts.0);
+    let lid = of_words(a.lid, b.lid);
+    and_then(nlts, lid)
+}
+
+pub fn of_heights(a: Height, b: Height) -> Order
+    ensures { λ r. ⌜ r ≡ orderOf (heightKey a) (heightKey b) ⌝ }
+{
+    let level = of_levels(a.level, b.level);
+    let delta = of_numbers(widened(a.delta), widened(b.delta));
+    let pair = of_pairs(a.pair, b.pair);
+    let id = of_words(a.id, b.id);
+    and_then(level, and_then(delta, and_then(pair, id)))
+}
+
+fn is_less(order: Order) -> bool
+    ensures { λ r. ⌜ r ≡ isLess order ⌝ }
+{
+    match order {
+        Order::Less => true,
+        Order::Equal => false,
+        Order::Greater => false,
+    }
+}
+
+fn is_equal(order: Order) -> bool
+    ensures { λ r. ⌜ r ≡ isEqual order ⌝ }
+{
+    match order {
+        Order::Less => false,
+        Order::Equal => true,
+        Order::Greater => false,
+    }
+}
+
+// ---- the tests that callers use
+
+pub fn level_before(a: ReferenceLevel, b: ReferenceLevel) -> bool
+    ensures { λ r. ⌜ r ≡ before (levelKey a) (levelKey b) ⌝ }
+{
+    is_less(of_levels(a, b))
+}
+
+pub fn level_same(a: ReferenceLevel, b: ReferenceLevel) -> bool
+    ensures { λ r. ⌜ r ≡ same (levelKey a) (levelKey b) ⌝ }
+{
+    is_equal(of_levels(a, b))
+}
+
+pub fn pair_before(a: LeaderPair, b: LeaderPair) -> bool
+    ensures { λ r. ⌜ r ≡ before (pairKey a) (pairKey b) ⌝ }
+{
+    is_less(of_pairs(a, b))
+}
+
+pub fn pair_same(a: LeaderPair, b: LeaderPair) -> bool
+    ensures { λ r. ⌜ r ≡ same (pairKey a) (pairKey b) ⌝ }
+{
+    is_equal(of_pairs(a, b))
+}
+
+pub fn height_before(a: Height, b: Height) -> bool
+    ensures { λ r. ⌜ r ≡ before (heightKey a) (heightKey b) ⌝ }
+{
+    is_less(of_heights(a, b))
+}

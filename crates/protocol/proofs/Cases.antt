@@ -1,0 +1,19 @@
+-- Document 01's marked cases a to i, one table, proved by computing it: each start network is sound with its times within its clocks,
+-- and rules, sets sent to, clocks and own heights come out as the table says. Assumes nothing.
+use mathlib.Core.Path.{_≡_, refl}
+use Rattle.height.specs.Height.{levelKey, pairKey, heightKey}
+use Rattle.height.specs.Order.{before, same}
+use Rattle.nodeset.specs.NodeSet.{setOf}
+use Rattle.protocol.specs.Cases.{cases, readings, outcomes, expectations}
+use Rattle.protocol.specs.Component.{pairQuiet, nodeQuiet, quiet}
+use Rattle.protocol.specs.Functions.{every, all, update}
+use Rattle.protocol.specs.Holds.{levelHolds, deltaHolds, pairHolds, heightHolds, messageHolds, notInBoth, setsHold, ownHolds, viewHolds, channelHolds, placeHolds, nodeHolds, sound}
+use Rattle.protocol.specs.Refusal.{misnamed, late, hasRoom, crowded, returned, accepts, answer, next, nextAll, answers}
+use Rattle.protocol.specs.Rules.{absent, downRule, larger, largest, deltas, ofLevel, oneLevelRule, equalPairsRule, receiptRule}
+use Rattle.protocol.specs.Sink.{above, sink}
+use Rattle.protocol.specs.Step.{carried, localUp, localDown, localIgnored, localTaken, post, commit, step}
+use Rattle.protocol.specs.Times.{timesWithin, messageTimely, pairTimely, nodeTimely, timely}
+
+pub cases-hold : (outcomes cases ≡ expectations cases) × (outcomes readings ≡ expectations readings)
+unfolding before same levelKey pairKey heightKey setOf every all update levelHolds deltaHolds pairHolds heightHolds messageHolds notInBoth setsHold ownHolds viewHolds channelHolds placeHolds nodeHolds sound timesWithin messageTimely pairTimely nodeTimely timely above sink absent downRule larger largest deltas ofLevel oneLevelRule equalPairsRule receiptRule carried localUp localDown localIgnored localTaken post commit step misnamed late hasRoom crowded returned accepts answer next nextAll answers pairQuiet nodeQuiet quiet
+cases-hold = (refl, refl)

@@ -1,0 +1,116 @@
+-- A network that keeps the invariant and is within the ranges passes every test of Holds.antt and of Times.antt.
+-- Assumes nothing.
+use Prim.Native.Nat.{ℕ, _≤_}
+use native.Mathlib.Omega.{arith}
+use mathlib.Core.Bool.{Bool, true, false, not, cond, _&&_, _||_, and-false}
+use mathlib.Core.Path.{_≡_, refl, sym, _∙_}
+use mathlib.Core.Logic.{_⊎_, inl, inr}
+use mathlib.Core.List.{List, [], _∷_}
+use lib.Dec.{eqb, leb}
+use lib.IntN.{pos, negℤ}
+use lib.ListN.{length}
+use lib.Signed.{leZ}
+use borrow.Author.Tests.{eq-eqb, ne-eqb, le-leb}
+use Rattle.height.specs.Clock.{lastTime}
+use Rattle.height.specs.Height.{heightKey, zeroHeight}
+use Rattle.height.specs.Order.{same}
+use Rattle.height.specs.declared.Height.{Height}
+use Rattle.height.proofs.OrderLaws.{clash, same-refl}
+use Rattle.protocol.specs.Component.{Node}
+use Rattle.protocol.specs.Functions.{every, all}
+use Rattle.protocol.specs.Holds.{messageHolds, heightHolds, notInBoth, setsHold, isEmpty, ownHolds, viewHolds, channelHolds, placeHolds, nodeHolds, sound}
+use Rattle.protocol.specs.Network.{Message, Network, upTo, capacity}
+use Rattle.protocol.specs.Times.{timesWithin, messageTimely, pairTimely, nodeTimely, timely}
+use Rattle.protocol.proofs.Invariant.{Inv, Settled, Sound, AllSound, none, some}
+use Rattle.protocol.proofs.LinkLaws.{Link, Half}
+use Rattle.protocol.proofs.Ranges.{height-holds, negated-le}
+use Rattle.protocol.proofs.RuleLaws.{Bounded, byCases}
+use Rattle.protocol.proofs.Soundness.{Fits, Ranged, AllFit, fnil, fcons}
+use Rattle.protocol.proofs.TestsLaws.{Choice, yes!, no!, choice, equal?, and-both, every-all}
+
+-- ---- messages
+
+messages-hold : (n u c : ℕ) → c ≤ lastTime → (ms : List Message) → AllFit n u ms → AllSound c u ms → all (messageHolds n u) ms ≡ true
+unfolding all messageHolds
+messages-hold n u c l [] fit sound = refl
+messages-hold n u c l (m ∷ ms) (fcons f fit) (some s sound) =
+    and-both (and-both (height-holds n u (m .height) f) (le-leb (m .timestamp) lastTime (omega (arith, s .timestamp-le))))
+    (messages-hold n u c l ms fit sound)
+
+within : (c : ℕ) (h : Height) → Bounded c h → timesWithin c h ≡ true
+unfolding timesWithin
+within c h b = and-both (le-leb (h .level .tau .0) c (b .tau-le)) (rw (b .nlts-is) (negated-le c (b .election) (b .election-le)))
+
+messages-timely : (u c : ℕ) (ms : List Message) → AllSound c u ms → all (messageTimely c) ms ≡ true
+unfolding all messageTimely
+messages-timely u c [] sound = refl
+messages-timely u c (m ∷ ms) (some s sound) =
+    and-both (and-both (le-leb (m .timestamp) c (s .timestamp-le)) (within (m .timestamp) (m .height) (s .bounded)))
+    (messages-timely u c ms sound)
+
+empty-is : (ms : List Message) → ms ≡ [] → isEmpty ms ≡ true
+empty-is ms e = rw e
+
+-- ---- places
+
+module _ (n : ℕ) (p : Network) (inv : Inv n p) (fits : Fits n p) where
+  one-set : (u v : ℕ) → notInBoth (p .neighbors u) (p .forming u) v ≡ true
+  unfolding notInBoth
+  one-set u v = go (choice (p .neighbors u v)) (equal? u v)
+    where
+      go : Choice (p .neighbors u v) → (u ≡ v) ⊎ (u ≡ v → ⊥) → not (p .neighbors u v && p .forming u v) ≡ true
+      go (no! i) d = rw i
+      go (yes! i) (inl e) = clash (rw (← e) at i) (inv .nodes u .selfN)
+      go (yes! i) (inr d) = rw (inv .links u v d .there .apart i, and-false)
+
+  own-holds : (u : ℕ) → Node n u → ownHolds n p u ≡ true
+  unfolding ownHolds setsHold
+  own-holds u node =
+      and-both
+      (and-both
+      (and-both (le-leb (p .clock u) lastTime (fits .nodes u .clock-le))
+      (and-both (and-both (every-all n (notInBoth (p .neighbors u) (p .forming u)) (λ v l k. one-set u v)) (rw (inv .nodes u .selfN)))
+      (rw (inv .nodes u .selfF))))
+      (height-holds n u (p .height u u) (fits .nodes u .own node)))
+      (empty-is (p .channel u u) (fits .diagonal u))
+
+  view-holds : (u v : ℕ) → (u ≡ v → ⊥) → viewHolds n p u v ≡ true
+  unfolding viewHolds
+  view-holds u v d = go (choice (p .neighbors u v))
+    where
+      go : Choice (p .neighbors u v)
+          → cond (p .neighbors u v) (heightHolds n v (p .height u v)) (same (heightKey (p .height u v)) (heightKey zeroHeight)) ≡ true
+      go (yes! i) = rw i (height-holds n v (p .height u v) (fits .nodes u .views v i))
+      go (no! i) = rw (i, fits .nodes u .blank v (λ q. d (sym q)) i) (same-refl (heightKey zeroHeight))
+
+  channel-holds : (u v : ℕ) → (u ≡ v → ⊥) → channelHolds n p u v ≡ true
+  unfolding channelHolds
+  channel-holds u v d =
+      and-both
+      (and-both (le-leb (length (p .channel u v)) capacity (fits .lengths u v))
+      (messages-hold n u (p .clock u) (fits .nodes u .clock-le) (p .channel u v) (fits .messages u v) (inv .posted u v)))
+      (idle (choice (upTo p u v)))
+    where
+      idle : Choice (upTo p u v) → (upTo p u v || isEmpty (p .channel u v)) ≡ true
+      idle (yes! i) = rw i
+      idle (no! i) = rw i (empty-is (p .channel u v) (inv .links u v d .there .idle i))
+
+  place-holds : (u v : ℕ) → Node n u → placeHolds n p u v ≡ true
+  unfolding placeHolds
+  place-holds u v node = go (equal? u v)
+    where
+      go : (u ≡ v) ⊎ (u ≡ v → ⊥) → cond (eqb u v) (ownHolds n p u) (viewHolds n p u v && channelHolds n p u v) ≡ true
+      go (inl e) = rw (eq-eqb u v e) (own-holds u node)
+      go (inr d) = rw (ne-eqb u v d) (and-both (view-holds u v d) (channel-holds u v d))
+
+  pub sound-holds : sound n p ≡ true
+  unfolding sound nodeHolds
+  sound-holds =
+      every-all n (nodeHolds n p) (λ u l k. every-all n (placeHolds n p u) (λ v i j. place-holds u v (record { low = l; high = k })))
+
+  pub timely-holds : timely n p ≡ true
+  unfolding timely nodeTimely pairTimely
+  timely-holds =
+      every-all n (nodeTimely n p)
+      (λ u l k. every-all n (pairTimely p u)
+      (λ v i j. and-both (within (p .clock u) (p .height u v) (inv .nodes u .times v)) (messages-timely u (p .clock u) (p .channel u v) (inv .posted u v))))

@@ -1,0 +1,23 @@
+-- Laws and theorems about the meaning.
+pub mod Said
+pub mod TestsLaws
+pub mod RuleLaws
+pub mod LinkLaws
+pub mod Invariant
+pub mod Accepted
+pub mod Ranges
+pub mod Channels
+pub mod Kept
+pub mod Soundness
+pub mod Restrict
+pub mod SentSet
+pub mod HistoryLaws
+pub mod Holding
+pub mod CountLaws
+pub mod Quiescence
+pub mod Good
+pub mod Locality
+pub mod Leaders
+pub mod Runs
+pub mod Cases
+pub mod Theorems

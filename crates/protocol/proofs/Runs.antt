@@ -1,0 +1,111 @@
+-- Lists of calls: events, saves and restores. The state stays good, and an accepted restore gives back the network at its save.
+-- Assumes the one law of the image that is a parameter here: reading what was written of a sound network gives it back.
+use Prim.Native.Nat.{ℕ}
+use mathlib.Core.Bool.{Bool, true, false, cond, _&&_}
+use mathlib.Core.List.{List, [], _∷_}
+use mathlib.Core.Path.{_≡_, refl, sym, ap, _∙_}
+use lib.Dec.{eqb, leb}
+use lib.ListN.{length}
+use borrow.Author.Tests.{eqb-true}
+use Rattle.height.proofs.OrderLaws.{clash}
+use Rattle.protocol.specs.Answer.{Said}
+use Rattle.protocol.specs.Component.{Node, Quiescent, OneLeader}
+use Rattle.protocol.specs.History.{History, State, upIn, waiting}
+use Rattle.protocol.specs.Holds.{sound}
+use Rattle.protocol.specs.Network.{Network, restrict}
+use Rattle.protocol.specs.Refusal.{answers, nextAll}
+use Rattle.protocol.specs.Run.{Call, event, save, restore, Reading, got, refused, Saved, RunState, sameBytes, Earlier, never, savedAt, lastSave, historyAt, restored, act, Fair, fairEvent, fairSave, fairSaved, fairRefused, AllFair, fairNil, fairCons, perform, startOfRun}
+use Rattle.protocol.specs.Step.{Event}
+use Rattle.protocol.proofs.Good.{Good, good-started, good-advance}
+use Rattle.protocol.proofs.Holding.{sound-holds}
+use Rattle.protocol.proofs.HistoryLaws.{Told}
+use Rattle.protocol.proofs.Leaders.{quiet-leader}
+use Rattle.protocol.proofs.Quiescence.{own}
+use Rattle.protocol.proofs.Restrict.{restrict-is}
+use Rattle.protocol.proofs.RuleLaws.{byCases}
+use Rattle.protocol.proofs.TestsLaws.{Choice, yes!, no!, choice, and-left, and-right}
+
+-- what is promised of a state: the history tells what the network holds, and a quiet network has one leader in each component
+pub record Promise (n : ℕ) (s : State) : Type 0 where
+  pub told : Told (s .history) (s .network)
+  pub leader : Quiescent n (upIn (s .history)) (waiting (s .history)) → (u : ℕ) → Node n u → OneLeader n (upIn (s .history)) (own (s .network)) u
+
+pub good-promise : (n : ℕ) (s : State) → Good n s → Promise n s
+good-promise n s g = record { told = g .told; leader = quiet-leader n s g }
+
+-- from two networks: the same answers to every list of events, and at its end the same clocks, sets, heights and messages
+pub record SameFrom (n : ℕ) (p q : Network) : Type 0 where
+  pub answered : (es : List Event) → answers n p es ≡ answers n q es
+  pub left : (es : List Event) → nextAll n p es ≡ nextAll n q es
+
+same-bytes : (xs ys : List ℕ) → sameBytes xs ys ≡ true → xs ≡ ys
+same-bytes [] [] e = refl
+same-bytes [] (y ∷ ys) e = clash e refl
+same-bytes (x ∷ xs) [] e = clash e refl
+same-bytes (x ∷ xs) (y ∷ ys) e =
+    let h = eqb-true x y (and-left (eqb x y) (sameBytes xs ys) e) in
+    let t = same-bytes xs ys (and-right (eqb x y) (sameBytes xs ys) e) in
+    cc
+
+module _ (write : ℕ → Network → List ℕ) (read : ℕ → List ℕ → Reading) (n : ℕ)
+    (back : (p : Network) → sound n p ≡ true → restrict n p ≡ p → read n (write n p) ≡ got p) where
+  -- each save holds the image of a good state
+  data Kept : List Saved → Type 0 where
+    knil : Kept []
+    kcons : {s : Saved} {ss : List Saved} → s .bytes ≡ write n (s .state .network) → Good n (s .state) → Kept ss → Kept (s ∷ ss)
+
+  record Sane (w : RunState) : Type 0 where
+    good : Good n (w .now)
+    kept : Kept (w .saves)
+
+  record Found (b : List ℕ) (s : State) : Type 0 where
+    bytes-are : b ≡ write n (s .network)
+    good : Good n s
+
+  found : (b : List ℕ) (ss : List Saved) → Kept ss → (s : State) → lastSave b ss ≡ savedAt s → Found b s
+  found b [] k s e = let z : _≡_ {A = ℕ} 0 1 = cc in clash {b = true} refl (ap (λ (x : ℕ). eqb x 0) z)
+  found b (x ∷ ss) (kcons i g k) s e = go (found b ss k s) (choice (sameBytes b (x .bytes)))
+    where
+      go : (lastSave b ss ≡ savedAt s → Found b s) → Choice (sameBytes b (x .bytes)) → Found b s
+      go ih (yes! z) =
+          let q : savedAt (x .state) ≡ savedAt s = rw z at e in
+          let t : x .state ≡ s = cc in
+          rw (← t) (record { bytes-are = same-bytes b (x .bytes) z ∙ i; good = g })
+      go ih (no! z) = ih (rw z at e)
+
+  -- reading the bytes of an earlier save gives the network at that save
+  read-saved : (w : RunState) (b : List ℕ) (s : State) → Sane w → lastSave b (w .saves) ≡ savedAt s → read n b ≡ got (s .network)
+  read-saved w b s sane e =
+      let f = found b (w .saves) (sane .kept) s e in
+      ap (read n) (f .bytes-are)
+      ∙ back (s .network) (sound-holds n (s .network) (f .good .inv) (f .good .fits)) (restrict-is n (s .network) (f .good .inv) (f .good .fits))
+
+  act-sane : (w : RunState) (c : Call) → Sane w → Fair write read n w c → Sane (act write read n w c)
+  act-sane w c s (fairEvent m e) =
+      byCases Sane (eqb m n) _ w (λ i. record { good = good-advance n (w .now) e (s .good); kept = s .kept }) (λ i. s)
+  act-sane w c s (fairSave m room) =
+      byCases Sane (eqb m n && leb (length (write n (w .now .network))) room) _ w
+      (λ i. record { good = s .good; kept = kcons refl (s .good) (s .kept) }) (λ i. s)
+  act-sane w c s (fairRefused b k e) = rw e s
+  act-sane w c s (fairSaved b t e) =
+      rw (read-saved w b t s e, e) (record { good = found b (w .saves) (s .kept) t e .good; kept = s .kept })
+
+  perform-sane : (w : RunState) (cs : List Call) → Sane w → AllFair write read n w cs → Sane (perform write read n w cs)
+  perform-sane w cs s fairNil = s
+  perform-sane w cs s (fairCons {c = c} {cs = rest} f fs) = perform-sane (act write read n w c) rest (act-sane w c s f) fs
+
+  run-sane : (cs : List Call) → AllFair write read n startOfRun cs → Sane (perform write read n startOfRun cs)
+  run-sane cs fair = perform-sane startOfRun cs (record { good = good-started n; kept = knil }) fair
+
+  -- after every list of calls
+  pub run-promise : (cs : List Call) → AllFair write read n startOfRun cs → Promise n (perform write read n startOfRun cs .now)
+  run-promise cs fair = good-promise n _ (run-sane cs fair .good)
+
+  -- after every list of calls, a restore of an earlier save's bytes goes on as the network at that save
+  pub run-restored : (cs : List Call) → AllFair write read n startOfRun cs → (b : List ℕ) (s : State)
+      → lastSave b (perform write read n startOfRun cs .saves) ≡ savedAt s
+      → SameFrom n (act write read n (perform write read n startOfRun cs) (restore b) .now .network) (s .network)
+  run-restored cs fair b s e =
+      let w = perform write read n startOfRun cs in
+      let r : act write read n w (restore b) .now .network ≡ s .network = rw (read-saved w b s (run-sane cs fair) e) in
+      record { answered = λ es. ap (λ (p : Network). answers n p es) r; left = λ es. ap (λ (p : Network). nextAll n p es) r }

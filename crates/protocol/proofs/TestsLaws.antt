@@ -1,0 +1,89 @@
+-- Tests over 1 to n, and functions changed in one place.
+use Prim.Native.Nat.{ℕ, zero, suc, _<_, _≤_}
+use native.Mathlib.Omega.{arith}
+use mathlib.Core.Bool.{Bool, true, false, not, cond, _&&_, _||_}
+use mathlib.Core.Path.{_≡_, refl, sym, ap, subst, _∙_, fun-ext}
+use mathlib.Core.Logic.{_⊎_, inl, inr}
+use lib.Dec.{ltb, eqb, leb}
+use borrow.Author.Tests.{eqb-true, eqb-false, eq-eqb, ne-eqb}
+use Rattle.protocol.specs.Functions.{every, update}
+use Rattle.height.proofs.OrderLaws.{clash, not-true-is-false, true-or-false}
+
+pub data Choice (b : Bool) : Type 0 where
+  yes! : b ≡ true → Choice b
+  no! : b ≡ false → Choice b
+
+pub choice : (b : Bool) → Choice b
+choice true = yes! refl
+choice false = no! refl
+
+pub equal? : (a b : ℕ) → (a ≡ b) ⊎ (a ≡ b → ⊥)
+equal? a b = go (choice (eqb a b))
+  where
+    go : Choice (eqb a b) → (a ≡ b) ⊎ (a ≡ b → ⊥)
+    go (yes! e) = inl (eqb-true a b e)
+    go (no! e) = inr (eqb-false a b e)
+
+pub and-left : (a b : Bool) → (a && b) ≡ true → a ≡ true
+and-left true b h = refl
+and-left false b h = h
+
+pub and-right : (a b : Bool) → (a && b) ≡ true → b ≡ true
+and-right true b h = h
+and-right false b h = clash h refl
+
+pub and-both : {a b : Bool} → a ≡ true → b ≡ true → (a && b) ≡ true
+and-both p q = rw (p, q)
+
+pub every-at : (n : ℕ) (p : ℕ → Bool) → every n p ≡ true → (v : ℕ) → 1 ≤ v → v ≤ n → p v ≡ true
+unfolding every
+every-at zero p h v l k = absurd (omega arith)
+every-at (suc n) p h v l k = go (every-at n p (and-right (p (suc n)) (every n p) h) v l) (equal? v (suc n))
+  where
+    go : (v ≤ n → p v ≡ true) → (v ≡ suc n) ⊎ (v ≡ suc n → ⊥) → p v ≡ true
+    go ih (inl e) = rw e (and-left (p (suc n)) (every n p) h)
+    go ih (inr d) = ih (omega arith)
+
+pub every-all : (n : ℕ) (p : ℕ → Bool) → ((v : ℕ) → 1 ≤ v → v ≤ n → p v ≡ true) → every n p ≡ true
+unfolding every
+every-all zero p h = refl
+every-all (suc n) p h = and-both (h (suc n) (omega arith) (omega arith)) (every-all n p (λ v l k. h v l (omega arith)))
+
+pub every-false : (n : ℕ) (p : ℕ → Bool) (v : ℕ) → 1 ≤ v → v ≤ n → p v ≡ false → every n p ≡ false
+every-false n p v l k h = not-true-is-false (every n p) (λ e. clash (every-at n p e v l k) h)
+
+pub record Found (n : ℕ) (p : ℕ → Bool) : Type 0 where
+  pub at : ℕ
+  pub low : 1 ≤ at
+  pub high : at ≤ n
+  pub fails : p at ≡ false
+
+pub every-not : (n : ℕ) (p : ℕ → Bool) → every n p ≡ false → Found n p
+unfolding every
+every-not zero p h = clash refl h
+every-not (suc n) p h = go (λ (e : every n p ≡ false). every-not n p e) (choice (p (suc n)))
+  where
+    go : (every n p ≡ false → Found n p) → Choice (p (suc n)) → Found (suc n) p
+    go ih (no! e) = record { at = suc n; low = omega arith; high = omega arith; fails = e }
+    go ih (yes! e) =
+        let f : Found n p = ih (rw e at h) in
+        record { at = f .at; low = f .low; high = omega arith; fails = f .fails }
+
+pub update-at : {A : Type 0} (f : ℕ → A) (u : ℕ) (x : A) → update f u x u ≡ x
+unfolding update
+update-at f u x = rw (eq-eqb u u refl)
+
+pub update-off : {A : Type 0} (f : ℕ → A) (u : ℕ) (x : A) (a : ℕ) → (a ≡ u → ⊥) → update f u x a ≡ f a
+unfolding update
+update-off f u x a h = rw (ne-eqb a u h)
+
+-- what holds of x at u, and of f elsewhere, holds of `set f u x`
+pub update-all : {A : Type 0} (P : ℕ → A → Type 0) (f : ℕ → A) (u : ℕ) (x : A) → P u x → ((a : ℕ) → (a ≡ u → ⊥) → P a (f a)) → (a : ℕ) → P a (update f u x a)
+update-all P f u x h k a = go (equal? a u)
+  where
+    go : (a ≡ u) ⊎ (a ≡ u → ⊥) → P a (update f u x a)
+    go (inl e) = rw (e, update-at f u x) h
+    go (inr d) = rw (update-off f u x a d) (k a d)
+
+pub update-self : {A : Type 0} (f : ℕ → A) (u : ℕ) → update f u (f u) ≡ f
+update-self f u = fun-ext (update-all (λ a x. x ≡ f a) f u (f u) refl (λ a d. refl))

@@ -1,0 +1,29 @@
+-- `protocol::number` meets its contract: what the answer says, by Said.antt.
+-- Assumes nothing.
+use mathlib.Core.Path.{sym}
+use Rattle.protocol.proofs.Said.{done-number}
+use borrow.Author.Needs.{needs}
+use Rattle.protocol.proofs.number.Statement.{statement}
+use Rattle.protocol.proofs.number.Tie as tie
+use Rattle.protocol.proofs.number.Reads as reads
+use Rattle.protocol.proofs.number.Lts as lts
+use Rattle.protocol.proofs.refusal_number.Reads as refusal-number-reads
+
+enum-told : tie.Need-enum-told
+enum-told c = search needs
+
+enum-known-answer : tie.Need-enum-known-answer
+enum-known-answer c = search needs
+
+refusal-number-requires : tie.Need-refusal-number-requires
+refusal-number-requires c κs = search needs
+
+returns : tie.Need-returns
+returns c = sym (done-number _ _ _ (c .enum-told .given .1))
+
+returns-2 : tie.Need-returns-2
+returns-2 c = search needs
+
+pub number-spec : {M : Type 1} → statement M
+number-spec =
+    tie.close (tie.spec enum-told enum-known-answer refusal-number-requires returns returns-2)

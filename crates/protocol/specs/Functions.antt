@@ -1,0 +1,19 @@
+-- Functions of node numbers: a test of all nodes, and a change at one place.
+use Prim.Native.Nat.{ℕ, zero, suc}
+use mathlib.Core.Bool.{Bool, true, false, cond, _&&_}
+use mathlib.Core.List.{List, [], _∷_}
+use lib.Dec.{eqb}
+
+-- the test holds at each of 1 to n
+unfoldable pub every : ℕ → (ℕ → Bool) → Bool
+every zero p = true
+every (suc n) p = p (suc n) && every n p
+
+-- the test holds of each element
+unfoldable pub all : {A : Type 0} → (A → Bool) → List A → Bool
+all p [] = true
+all p (x ∷ xs) = p x && all p xs
+
+-- f, with x in the place of u
+unfoldable pub update : {A : Type 0} → (ℕ → A) → ℕ → A → ℕ → A
+update f u x a = cond (eqb a u) x (f a)

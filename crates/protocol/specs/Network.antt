@@ -1,0 +1,68 @@
+-- What a node holds, and the fresh network: document 01, "What a station holds".
+-- A network (document 01: plot) is functions of node numbers. Outside 1 to n a grown network stays as the fresh one.
+use Prim.Native.Nat.{ℕ}
+use mathlib.Core.Bool.{Bool, true, false, cond, _&&_, _||_}
+use mathlib.Core.List.{List, [], _∷_}
+use mathlib.Core.Path.{_≡_}
+use lib.Dec.{eqb, leb}
+use lib.IntN.{pos}
+use Rattle.height.specs.declared.Height.{Height}
+use Rattle.height.specs.Height.{zeroLevel, zeroHeight}
+
+-- a message: the sender's height, and its clock when it was sent (document 01: stamp)
+pub record Message : Type 0 where
+  pub height : Height
+  pub timestamp : ℕ
+
+-- clock; linked set N; forming set F; u's own height at u u and its view of v at u v; channel u to v, oldest message first
+pub record Network : Type 0 where
+  pub clock : ℕ → ℕ
+  pub neighbors : ℕ → ℕ → Bool
+  pub forming : ℕ → ℕ → Bool
+  pub height : ℕ → ℕ → Height
+  pub channel : ℕ → ℕ → List Message
+
+-- a node number (document 01: station): 1 to n
+abbrev pub isNode : ℕ → ℕ → Bool
+isNode n u = leb 1 u && leb u n
+
+-- channel u to v is up exactly when v is in N or F of u
+abbrev pub upTo : Network → ℕ → ℕ → Bool
+upTo p u v = p .neighbors u v || p .forming u v
+
+-- how many messages a channel holds at most
+abbrev pub capacity : ℕ
+capacity = 8
+
+-- (0, 0, 0, 0, 0, k, k)
+abbrev pub freshHeight : ℕ → Height
+freshHeight k = record { level = zeroLevel; delta = pos 0; pair = record { nlts = record { 0 = pos 0 }; lid = k }; id = k }
+
+-- clocks 0, sets empty, no messages, node k's own height (0, 0, 0, 0, 0, k, k), every view zero
+abbrev pub fresh : Network
+fresh = record {
+  clock = λ u. 0;
+  neighbors = λ u v. false;
+  forming = λ u v. false;
+  height = λ u v. cond (eqb u v) (freshHeight u) zeroHeight;
+  channel = λ u v. [];
+}
+
+-- ---- a network's numbers at the nodes 1 to n
+
+-- f at nodes, g elsewhere
+abbrev pub atNodes : {A : Type 0} → ℕ → (ℕ → A) → (ℕ → A) → ℕ → A
+atNodes n f g u = cond (isNode n u) (f u) (g u)
+
+abbrev pub atPairs : {A : Type 0} → ℕ → (ℕ → ℕ → A) → (ℕ → ℕ → A) → ℕ → ℕ → A
+atPairs n f g u v = cond (isNode n u && isNode n v) (f u v) (g u v)
+
+-- p at the nodes 1 to n, fresh elsewhere: equal to p exactly when p holds nothing beyond node n
+unfoldable pub restrict : ℕ → Network → Network
+restrict n p = record {
+  clock = atNodes n (p .clock) (fresh .clock);
+  neighbors = atPairs n (p .neighbors) (fresh .neighbors);
+  forming = atPairs n (p .forming) (fresh .forming);
+  height = atPairs n (p .height) (fresh .height);
+  channel = atPairs n (p .channel) (fresh .channel);
+}

@@ -1,0 +1,27 @@
+-- Times that make sense: none in a node's heights above its clock, no stamp above the sender's clock, no message time above its stamp.
+-- Document 01 asks for none of this; the theorems show it of every grown network, and the start networks of the worked cases have it.
+use Prim.Native.Nat.{ℕ}
+use mathlib.Core.Bool.{Bool, _&&_}
+use lib.Dec.{leb}
+use lib.IntN.{pos, negℤ}
+use lib.Signed.{leZ}
+use Rattle.height.specs.declared.Height.{Height}
+use Rattle.protocol.specs.Functions.{every, all}
+use Rattle.protocol.specs.Network.{Message, Network}
+
+-- search time and election time are at most c
+unfoldable pub timesWithin : ℕ → Height → Bool
+timesWithin c h = leb (h .level .tau .0) c && leZ (negℤ (pos c)) (h .pair .nlts .0)
+
+-- stamped at most c, and its times within its stamp
+unfoldable pub messageTimely : ℕ → Message → Bool
+messageTimely c m = leb (m .timestamp) c && timesWithin (m .timestamp) (m .height)
+
+unfoldable pub pairTimely : Network → ℕ → ℕ → Bool
+pairTimely p u v = timesWithin (p .clock u) (p .height u v) && all (messageTimely (p .clock u)) (p .channel u v)
+
+unfoldable pub nodeTimely : ℕ → Network → ℕ → Bool
+nodeTimely n p u = every n (pairTimely p u)
+
+unfoldable pub timely : ℕ → Network → Bool
+timely n p = every n (nodeTimely n p)
