@@ -6,12 +6,12 @@ use mathlib.Core.List.{List, [], _∷_}
 use mathlib.Core.Path.{_≡_, refl}
 use lib.Dec.{eqb}
 use borrow.Author.Tests.{eqb-true}
-use Rattle.protocol.specs.History.{State, started, entry, advance, advanced, grown}
+use Rattle.protocol.specs.History.{State, started, entry, advance, advanced, grown, Told}
 use Rattle.protocol.specs.Network.{Network, fresh}
 use Rattle.protocol.specs.Refusal.{returned, accepts, next}
 use Rattle.protocol.specs.Step.{Event, step}
 use Rattle.protocol.proofs.Accepted.{Accepted, accepted}
-use Rattle.protocol.proofs.HistoryLaws.{Told, event-told}
+use Rattle.protocol.proofs.HistoryLaws.{event-told}
 use Rattle.protocol.proofs.Invariant.{Inv}
 use Rattle.protocol.proofs.Kept.{step-keeps, fresh-inv}
 use Rattle.protocol.proofs.Soundness.{Fits, step-fits, fresh-fits}

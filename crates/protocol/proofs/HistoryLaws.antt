@@ -18,7 +18,7 @@ use Rattle.protocol.specs.Rules.{downRule}
 use Rattle.protocol.specs.Step.{Local, sends, Event, up, down, receive, home, peer, local, localUp, localDown, localTaken, localIgnored, localReceipt, cleared, step, post, commit, carried}
 use Rattle.height.specs.declared.Height.{Height}
 use Rattle.nodeset.specs.NodeSet.{digit, member, setOf}
-use Rattle.protocol.specs.History.{Entry, History, upIn, turned, isDown, isSending, isReceipt, sentSince, receivedSince, entry}
+use Rattle.protocol.specs.History.{Entry, History, upIn, turned, isDown, isSending, isReceipt, sentSince, receivedSince, entry, Told}
 use Rattle.height.proofs.OrderLaws.{clash}
 use Rattle.protocol.proofs.TestsLaws.{Choice, yes!, no!, choice, equal?, update-at, update-off, and-left, and-right}
 use Rattle.protocol.proofs.RuleLaws.{byCases}
@@ -28,11 +28,6 @@ use Rattle.protocol.proofs.Invariant.{Inv}
 use Rattle.protocol.proofs.Kept.{down-silent}
 use Rattle.protocol.proofs.SentSet.{sent-member, answer-sent}
 use Rattle.protocol.proofs.Soundness.{Fits}
-
--- the history tells what the network holds; sent = received + waiting, so no subtraction hides a fault
-pub record Told (h : History) (p : Network) : Type 0 where
-  pub ups : (u v : ℕ) → upIn h u v ≡ upTo p u v
-  pub counts : (u v : ℕ) → receivedSince h u v + length (p .channel u v) ≡ sentSince h u v
 
 -- ---- what a commit does to sets and counts
 

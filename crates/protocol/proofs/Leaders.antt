@@ -9,13 +9,12 @@ use mathlib.Core.Path.{_≡_, refl, sym, _∙_, fun-ext}
 use lib.ListN.{length}
 use Rattle.height.proofs.OrderLaws.{clash}
 use Rattle.protocol.specs.Component.{Node, Two, Quiescent, OneLeader, pairQuiet, nodeQuiet, quiet}
-use Rattle.protocol.specs.History.{History, State, upIn, waiting, sentSince, receivedSince}
+use Rattle.protocol.specs.History.{History, State, upIn, waiting, sentSince, receivedSince, Told}
 use Rattle.protocol.specs.Functions.{every}
 use Rattle.protocol.specs.Holds.{isEmpty}
-use Rattle.protocol.specs.Network.{Message, Network, upTo}
+use Rattle.protocol.specs.Network.{Message, Network, upTo, own}
 use Rattle.protocol.proofs.Good.{Good}
-use Rattle.protocol.proofs.HistoryLaws.{Told}
-use Rattle.protocol.proofs.Quiescence.{own, held, one-leader}
+use Rattle.protocol.proofs.Quiescence.{held, one-leader}
 use Rattle.protocol.proofs.TestsLaws.{equal?, and-left, and-right, and-both, every-at, every-all}
 
 pub quiet-leader : (n : ℕ) (s : State) → Good n s → Quiescent n (upIn (s .history)) (waiting (s .history))

@@ -16,17 +16,13 @@ use Rattle.height.proofs.OrderLaws.{clash, before-total, before-irrefl, before-
 use Rattle.nodeset.specs.NodeSet.{sizeOf}
 use Rattle.protocol.specs.Component.{Node, Two, Quiescent, Linked, Joined, alone, link, Descending, arrived, falls, Leader, OneLeader}
 use Rattle.protocol.specs.Functions.{every}
-use Rattle.protocol.specs.Network.{Message, Network, upTo}
+use Rattle.protocol.specs.Network.{Message, Network, upTo, own}
 use Rattle.protocol.specs.Sink.{above, sink}
 use Rattle.protocol.proofs.CountLaws.{sizeOf-lt}
 use Rattle.protocol.proofs.TestsLaws.{Choice, yes!, no!, choice, equal?, every-not, Found}
 use Rattle.protocol.proofs.RuleLaws.{PairLe}
 use Rattle.protocol.proofs.LinkLaws.{Link, Half}
 use Rattle.protocol.proofs.Invariant.{Inv, Settled, sideOf}
-
--- own heights
-abbrev pub own : Network → ℕ → Height
-own p u = p .height u u
 
 abbrev pub held : Network → ℕ → ℕ → ℕ
 held p u v = length (p .channel u v)

@@ -10,17 +10,15 @@ use borrow.Author.Tests.{eqb-true}
 use Rattle.height.proofs.OrderLaws.{clash}
 use Rattle.protocol.specs.Answer.{Said}
 use Rattle.protocol.specs.Component.{Node, Quiescent, OneLeader}
-use Rattle.protocol.specs.History.{History, State, upIn, waiting}
+use Rattle.protocol.specs.History.{History, State, upIn, waiting, Told}
 use Rattle.protocol.specs.Holds.{sound}
-use Rattle.protocol.specs.Network.{Network, restrict}
+use Rattle.protocol.specs.Network.{Network, restrict, own}
 use Rattle.protocol.specs.Refusal.{answers, nextAll}
 use Rattle.protocol.specs.Run.{Call, event, save, restore, Reading, got, refused, Saved, RunState, sameBytes, Earlier, never, savedAt, lastSave, historyAt, restored, act, Fair, fairEvent, fairSave, fairSaved, fairRefused, AllFair, fairNil, fairCons, perform, startOfRun}
 use Rattle.protocol.specs.Step.{Event}
 use Rattle.protocol.proofs.Good.{Good, good-started, good-advance}
 use Rattle.protocol.proofs.Holding.{sound-holds}
-use Rattle.protocol.proofs.HistoryLaws.{Told}
 use Rattle.protocol.proofs.Leaders.{quiet-leader}
-use Rattle.protocol.proofs.Quiescence.{own}
 use Rattle.protocol.proofs.Restrict.{restrict-is}
 use Rattle.protocol.proofs.RuleLaws.{byCases}
 use Rattle.protocol.proofs.TestsLaws.{Choice, yes!, no!, choice, and-left, and-right}

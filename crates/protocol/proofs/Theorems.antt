@@ -1,23 +1,20 @@
 -- What holds of every network grown from the fresh one by a list of events, refused ones among them, for every n (so for 1 to 16).
 -- Assumes nothing. The statements are records, below; Runs.antt adds saves and restores, Locality.antt says what an event can touch.
-use Prim.Native.Nat.{ℕ, _+_}
+use Prim.Native.Nat.{ℕ}
 use mathlib.Core.Bool.{Bool, true, false}
 use mathlib.Core.List.{List, [], _∷_}
 use mathlib.Core.Path.{_≡_, refl}
-use lib.ListN.{length}
 use Rattle.protocol.specs.Component.{Node, Quiescent, OneLeader}
-use Rattle.protocol.specs.History.{State, upIn, sentSince, receivedSince, waiting, advance, advanced, grown}
+use Rattle.protocol.specs.History.{State, upIn, waiting, Told, advance, advanced, grown}
 use Rattle.protocol.specs.Holds.{sound}
-use Rattle.protocol.specs.Network.{Network, upTo, restrict}
+use Rattle.protocol.specs.Network.{Network, own, restrict}
 use Rattle.protocol.specs.Refusal.{nextAll}
 use Rattle.protocol.specs.Sink.{sink}
 use Rattle.protocol.specs.Step.{Event}
 use Rattle.protocol.specs.Times.{timely}
 use Rattle.protocol.proofs.Good.{Good, good-grown}
 use Rattle.protocol.proofs.Holding.{sound-holds, timely-holds}
-use Rattle.protocol.proofs.HistoryLaws.{Told}
 use Rattle.protocol.proofs.Leaders.{quiet-leader}
-use Rattle.protocol.proofs.Quiescence.{own}
 use Rattle.protocol.proofs.Restrict.{restrict-is}
 
 -- 1. it breaks no rule of "What a station holds", holds nothing beyond node n, its times make sense, and no node is a sink
@@ -27,13 +24,10 @@ pub record Steady (n : ℕ) (p : Network) : Type 0 where
   pub times-make-sense : timely n p ≡ true
   pub no-sink : (u : ℕ) → sink n (p .neighbors u) (p .height u) u ≡ false
 
--- 2. up and messages waiting by the history are what it holds; no subtraction cuts anything off
-pub record Recorded (s : State) : Type 0 where
-  pub up-agrees : (u v : ℕ) → upIn (s .history) u v ≡ upTo (s .network) u v
-  pub sent-received-waiting : (u v : ℕ) → receivedSince (s .history) u v + length (s .network .channel u v) ≡ sentSince (s .history) u v
+-- 2. up and messages waiting by the history are what it holds: History.antt, `Told`
 
 -- 3. quiet by the history: every node's component has exactly one leader, a member, with a falling path to it
-pub Led : ℕ → State → Type 0
+abbrev pub Led : ℕ → State → Type 0
 Led n s =
     Quiescent n (upIn (s .history)) (waiting (s .history)) → (u : ℕ) → Node n u → OneLeader n (upIn (s .history)) (own (s .network)) u
 
@@ -50,13 +44,10 @@ grown-steady n es =
       no-sink = λ u. g .inv .nodes u .awake;
     }
 
-pub grown-recorded : (n : ℕ) (es : List Event) → Recorded (grown n es)
-grown-recorded n es =
-    let g = good-grown n es in
-    record { up-agrees = g .told .ups; sent-received-waiting = g .told .counts }
+pub grown-told : (n : ℕ) (es : List Event) → Told (grown n es .history) (grown n es .network)
+grown-told n es = good-grown n es .told
 
 pub grown-led : (n : ℕ) (es : List Event) → Led n (grown n es)
-unfolding Led
 grown-led n es = quiet-leader n (grown n es) (good-grown n es)
 
 -- the network of a grown state is the one that the events leave, one after the other

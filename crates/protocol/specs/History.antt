@@ -3,10 +3,12 @@
 use Prim.Native.Nat.{ℕ, _+_, _-_}
 use mathlib.Core.Bool.{Bool, true, false, cond, _&&_}
 use mathlib.Core.List.{List, [], _∷_}
+use mathlib.Core.Path.{_≡_}
 use lib.Dec.{eqb}
+use lib.ListN.{length}
 use Rattle.nodeset.specs.NodeSet.{member, digit}
 use Rattle.protocol.specs.Answer.{Said}
-use Rattle.protocol.specs.Network.{Network, fresh}
+use Rattle.protocol.specs.Network.{Network, upTo, fresh}
 use Rattle.protocol.specs.Refusal.{accepts, answer, next}
 use Rattle.protocol.specs.Step.{Event, up, down, receive, home, local}
 
@@ -57,6 +59,11 @@ receivedSince (e ∷ h) u v = cond (isDown (e .event) u v) 0 (digit (isReceipt (
 -- the theorems show that nothing is cut off here: received + waiting = sent
 abbrev pub waiting : History → ℕ → ℕ → ℕ
 waiting h u v = sentSince h u v - receivedSince h u v
+
+-- the history tells what the network holds: up, and sent = received + waiting
+pub record Told (h : History) (p : Network) : Type 0 where
+  pub ups : (u v : ℕ) → upIn h u v ≡ upTo p u v
+  pub counts : (u v : ℕ) → receivedSince h u v + length (p .channel u v) ≡ sentSince h u v
 
 -- ---- a network with its history
 

@@ -30,6 +30,10 @@ isNode n u = leb 1 u && leb u n
 abbrev pub upTo : Network → ℕ → ℕ → Bool
 upTo p u v = p .neighbors u v || p .forming u v
 
+-- own heights
+abbrev pub own : Network → ℕ → Height
+own p u = p .height u u
+
 -- how many messages a channel holds at most
 abbrev pub capacity : ℕ
 capacity = 8
