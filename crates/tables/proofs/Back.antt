@@ -1,0 +1,276 @@
+-- A network whose numbers fit in words is what its tables load to: `load n (tablesOf n p) ≡ p`.
+-- Assumes that p holds nothing beyond node n and that its heights and channels fit (`Storable`); every good network does.
+use Prim.Native.Nat.{ℕ, zero, suc, _+_, _-_, _*_, _<_, _≤_}
+use native.Mathlib.Nat.{zero-add}
+use native.Mathlib.Omega.{arith}
+use mathlib.Core.Bool.{Bool, true, false, cond, _&&_}
+use mathlib.Core.List.{List, [], _∷_, _++_}
+use mathlib.Core.Logic.{_⊎_, inl, inr}
+use mathlib.Core.Path.{_≡_, refl, sym, ap, _∙_, fun-ext}
+use lib.Dec.{eqb, leb}
+use lib.ListN.{getD, length, take, drop, replicate, length-append, length-replicate}
+use lib.Seq.{getD-take, getD-drop, getD-append-add, take-at, drop-at, drop-drop}
+use borrow.Author.Tests.{ne-eqb, leb-false, le-leb}
+use Rattle.height.specs.Height.{zeroHeight}
+use Rattle.height.specs.Words.{heightAt, heightWords}
+use Rattle.height.specs.declared.Height.{Height}
+use Rattle.height.proofs.OrderLaws.{clash, not-true-is-false}
+use Rattle.height.proofs.WordsLaws.{same-words, words-height}
+use Rattle.nodeset.specs.NodeSet.{member, setOf}
+use Rattle.nodeset.proofs.Members.{member-setOf, setOf-lt, none-above, member-zero}
+use Rattle.protocol.specs.Component.{Node}
+use Rattle.protocol.specs.History.{State}
+use Rattle.protocol.specs.Network.{Message, Network, isNode, fresh, atNodes, atPairs, restrict}
+use Rattle.protocol.proofs.Good.{Good}
+use Rattle.protocol.proofs.Invariant.{Inv}
+use Rattle.protocol.proofs.Restrict.{restrict-is, is-node as node-is}
+use Rattle.protocol.proofs.Soundness.{Fits, Ranged, AllFit, fnil, fcons}
+use Rattle.protocol.proofs.TestsLaws.{Choice, yes!, no!, choice, equal?}
+use Rattle.tables.specs.Cell.{messageAt, messagesAt, queue, messageWords, placeWords, cellWords}
+use Rattle.tables.specs.Load.{load, tablesOf, clockAt, neighborsAt, formingAt, heightsAt, messagesOn}
+use Rattle.tables.specs.Row.{clockIn, neighborsIn, formingIn, heightIn, nodeWords}
+use Rattle.tables.specs.Rows.{rowAt, rows}
+use Rattle.tables.specs.Tables.{Tables, Sized, width, cellWidth, nodeOf, channelOf, pairOf}
+use Rattle.tables.proofs.CellLaws.{messages-moved}
+use Rattle.tables.proofs.RowLaws.{height-past}
+use Rattle.tables.proofs.TablesLaws.{is-node}
+use Rattle.tables.proofs.WordRuns.{row-in}
+use Rattle.tables.proofs.Wordy.{Wordy, fits-wordy, zero-wordy}
+
+pub data AllWordy : List Message → Type 0 where
+  wnil : AllWordy []
+  wcons : {m : Message} {ms : List Message} → Wordy (m .height) → AllWordy ms → AllWordy (m ∷ ms)
+
+pub record Storable (n : ℕ) (p : Network) : Type 0 where
+  pub inside : restrict n p ≡ p
+  pub heights : (u v : ℕ) → Node n u → Node n v → Wordy (p .height u v)
+  pub messages : (u v : ℕ) → Node n u → Node n v → AllWordy (p .channel u v)
+  pub short : (u v : ℕ) → Node n u → Node n v → length (p .channel u v) ≤ 8
+
+-- ---- rows laid end to end
+
+pub rows-length : (w k : ℕ) (f : ℕ → List ℕ) → ((i : ℕ) → length (f i) ≡ w) → length (rows k f) ≡ k * w
+unfolding rows
+rows-length w zero f h = omega arith
+rows-length w (suc k) f h =
+    length-append (f 1) (rows k (λ i. f (suc i))) ∙ omega (arith, h 1, rows-length w k (λ i. f (suc i)) (λ i. h (suc i)))
+
+row-of : (w k : ℕ) (f : ℕ → List ℕ) → ((i : ℕ) → length (f i) ≡ w) → (i : ℕ) → i < k → rowAt w i (rows k f) ≡ f (suc i)
+unfolding rows rowAt
+row-of w zero f h i l = absurd (omega arith)
+row-of w (suc k) f h zero l =
+    let z : 0 * w ≡ 0 = omega arith in
+    rw z (take-at (f 1) (rows k (λ i. f (suc i))) w (h 1))
+row-of w (suc k) f h (suc i) l =
+    let e : suc i * w ≡ w + i * w = omega arith in
+    rw e (ap (take w) (sym (drop-drop (i * w) w (f 1 ++ rows k (λ i. f (suc i))))
+    ∙ ap (drop (i * w)) (drop-at (f 1) (rows k (λ i. f (suc i))) w (h 1)))
+    ∙ row-of w k (λ i. f (suc i)) (λ i. h (suc i)) i (omega arith))
+
+-- ---- a node's words
+
+words-length : (h : Height) → length (heightWords h) ≡ 7
+unfolding heightWords
+words-length h = refl
+
+pub node-length : (n c : ℕ) (N F : ℕ → Bool) (H : ℕ → Height) → length (nodeWords n c N F H) ≡ width n
+unfolding nodeWords
+node-length n c N F H = let e = rows-length 7 n (λ v. heightWords (H v)) (λ v. words-length (H v)) in omega arith
+
+-- a height read in a row of words
+height-row : (ws : List ℕ) (i : ℕ) → heightAt ws (i * 7) ≡ heightAt (rowAt 7 i ws) 0
+unfolding rowAt
+height-row ws i =
+    same-words ws (take 7 (drop (i * 7) ws)) (i * 7) 0
+    (λ k l. sym (ap (λ (x : ℕ). getD (take 7 (drop (i * 7) ws)) x 0) (zero-add k)
+    ∙ getD-take 7 (drop (i * 7) ws) k 0 l ∙ getD-drop (i * 7) ws k 0))
+
+past-three : (a b c : ℕ) (ws : List ℕ) (i : ℕ) → heightAt (a ∷ b ∷ c ∷ ws) (3 + i) ≡ heightAt ws i
+past-three a b c ws i =
+    same-words (a ∷ b ∷ c ∷ ws) ws (3 + i) i
+    (λ k l. let e : 3 + i + k ≡ 3 + (i + k) = omega arith in rw e (getD-append-add (a ∷ b ∷ c ∷ []) ws (i + k) 0))
+
+node-height : (n c : ℕ) (N F : ℕ → Bool) (H : ℕ → Height) (k : ℕ) → k < n → Wordy (H (suc k)) → heightIn (nodeWords n c N F H) (suc k) ≡ H (suc k)
+unfolding nodeWords heightIn
+node-height n c N F H k l w =
+    past-three c (setOf n N) (setOf n F) (rows n (λ v. heightWords (H v))) (k * 7)
+    ∙ height-row (rows n (λ v. heightWords (H v))) k
+    ∙ ap (λ (xs : List ℕ). heightAt xs 0) (row-of 7 n (λ v. heightWords (H v)) (λ v. words-length (H v)) k l)
+    ∙ words-height (H (suc k)) (w .delta) (w .nlts)
+
+-- ---- a channel's words
+
+message-length : (m : Message) → length (messageWords m) ≡ 8
+unfolding messageWords heightWords
+message-length m = refl
+
+places-length : (k : ℕ) (ms : List Message) → length (placeWords k ms) ≡ k * 8
+unfolding placeWords
+places-length zero ms = omega arith
+places-length (suc k) [] = length-append (replicate 8 0) (placeWords k []) ∙ omega (arith, places-length k [])
+places-length (suc k) (m ∷ ms) = length-append (messageWords m) (placeWords k ms) ∙ omega (arith, message-length m, places-length k ms)
+
+pub cell-length : (ms : List Message) → length (cellWords ms) ≡ cellWidth
+unfolding cellWords
+cell-length ms = let e = places-length 8 ms in omega arith
+
+message-back : (m : Message) (rest : List ℕ) → Wordy (m .height) → messageAt (messageWords m ++ rest) 0 ≡ m
+unfolding messageAt messageWords heightWords
+message-back m rest w =
+    let e : heightAt ((heightWords (m .height) ++ (m .timestamp ∷ [])) ++ rest) 0 ≡ m .height =
+    unfold heightAt heightWords in words-height (m .height) (w .delta) (w .nlts) in
+    rw e
+
+places-back : (k : ℕ) (ms : List Message) → AllWordy ms → length ms ≤ k → messagesAt (length ms) (placeWords k ms) 0 ≡ ms
+unfolding messagesAt placeWords
+places-back k ms wnil l = refl
+places-back zero ms (wcons w ws) l = absurd (omega arith)
+places-back (suc k) ms (wcons {m = m} {ms = rest} w ws) l =
+    let ih = places-back k rest ws (omega arith) in
+    let shifted : messagesAt (length rest) (messageWords m ++ placeWords k rest) (0 + 8) ≡ messagesAt (length rest) (placeWords k rest) 0 =
+    messages-moved (length rest) (messageWords m ++ placeWords k rest) (placeWords k rest) (0 + 8) 0
+    (λ j q. let e : 0 + 8 + j ≡ length (messageWords m) + j = omega (arith, message-length m) in
+    let f : 0 + j ≡ j = omega arith in rw (e, f) (getD-append-add (messageWords m) (placeWords k rest) j 0)) in
+    rw (message-back m (placeWords k rest) w, shifted, ih)
+
+pub queue-back : (ms : List Message) → AllWordy ms → length ms ≤ 8 → queue (cellWords ms) ≡ ms
+unfolding queue cellWords
+queue-back ms w l =
+    messages-moved (length ms) (length ms ∷ placeWords 8 ms) (placeWords 8 ms) 1 0
+    (λ j q. let e : 0 + j ≡ j = omega arith in rw e (getD-append-add (length ms ∷ []) (placeWords 8 ms) j 0))
+    ∙ places-back 8 ms w l
+
+-- ---- a set's members, at any number
+
+outside : (n k : ℕ) → isNode n (suc k) ≡ false → n ≤ k
+outside n k e = go (choice (leb (suc k) n))
+  where
+    go : Choice (leb (suc k) n) → n ≤ k
+    go (yes! f) = clash (rw (le-leb 1 (suc k) (omega arith), f)) e
+    go (no! f) = omega (arith, leb-false (suc k) n f)
+
+set-back : (n : ℕ) (f : ℕ → Bool) (k : ℕ) → member (setOf n f) k ≡ cond (isNode n k) (f k) false
+set-back n f zero = member-zero (setOf n f)
+set-back n f (suc k) = go (choice (isNode n (suc k)))
+  where
+    go : Choice (isNode n (suc k)) → member (setOf n f) (suc k) ≡ cond (isNode n (suc k)) (f (suc k)) false
+    go (yes! e) = let s = node-is n (suc k) e in rw e (member-setOf n f (suc k) (s .low) (s .high))
+    go (no! e) = rw e (none-above n (setOf n f) (suc k) (setOf-lt n f) (omega (arith, outside n k e)))
+
+-- ---- the network
+
+module _ (n : ℕ) (p : Network) (ok : Storable n p) where
+  node-of : (u : ℕ) → Node n u → nodeOf n u (tablesOf n p .nodes) ≡ nodeWords n (p .clock u) (p .neighbors u) (p .forming u) (p .height u)
+  unfolding tablesOf
+  node-of u a =
+      let e : suc (u - 1) ≡ u = omega (arith, a .low) in
+      row-of (width n) n (λ u. nodeWords n (p .clock u) (p .neighbors u) (p .forming u) (p .height u))
+      (λ u. node-length n (p .clock u) (p .neighbors u) (p .forming u) (p .height u)) (u - 1) (omega (arith, a .low, a .high))
+      ∙ ap (λ (u : ℕ). nodeWords n (p .clock u) (p .neighbors u) (p .forming u) (p .height u)) e
+
+  cell-of : (u v : ℕ) → Node n u → Node n v → channelOf n u v (tablesOf n p .channels) ≡ cellWords (p .channel u v)
+  unfolding tablesOf
+  cell-of u v a b =
+      let e : suc (u - 1) ≡ u = omega (arith, a .low) in
+      let f : suc (v - 1) ≡ v = omega (arith, b .low) in
+      let i : u - 1 < n = omega (arith, a .low, a .high) in
+      let j : v - 1 < n = omega (arith, b .low, b .high) in
+      let len : (u : ℕ) → length (rows n (λ v. cellWords (p .channel u v))) ≡ n * cellWidth =
+      λ u. rows-length cellWidth n (λ v. cellWords (p .channel u v)) (λ v. cell-length (p .channel u v)) in
+      sym (row-in cellWidth n (u - 1) (v - 1) (rows n (λ u. rows n (λ v. cellWords (p .channel u v))))
+      (rows-length (n * cellWidth) n (λ u. rows n (λ v. cellWords (p .channel u v))) len) i j)
+      ∙ ap (rowAt cellWidth (v - 1)) (row-of (n * cellWidth) n (λ u. rows n (λ v. cellWords (p .channel u v))) len (u - 1) i)
+      ∙ row-of cellWidth n (λ v. cellWords (p .channel (suc (u - 1)) v)) (λ v. cell-length (p .channel (suc (u - 1)) v)) (v - 1) j
+      ∙ rw (e, f)
+
+  heights-of : (u : ℕ) → Node n u → (v : ℕ) → heightIn (nodeWords n (p .clock u) (p .neighbors u) (p .forming u) (p .height u)) v
+      ≡ cond (isNode n v) (p .height u v) (fresh .height u v)
+  heights-of u a zero =
+      let d : eqb u 0 ≡ false = ne-eqb u 0 (λ e. omega (arith, a .low)) in
+      rw d (unfold heightIn in refl)
+  heights-of u a (suc k) = go (choice (isNode n (suc k)))
+    where
+      row : List ℕ
+      row = nodeWords n (p .clock u) (p .neighbors u) (p .forming u) (p .height u)
+
+      go : Choice (isNode n (suc k)) → heightIn row (suc k) ≡ cond (isNode n (suc k)) (p .height u (suc k)) (fresh .height u (suc k))
+      go (yes! e) =
+          let s = node-is n (suc k) e in
+          rw e (node-height n (p .clock u) (p .neighbors u) (p .forming u) (p .height u) k (omega (arith, s .high)) (ok .heights u (suc k) a s))
+      go (no! e) =
+          let l = outside n k e in
+          rw (e, ne-eqb u (suc k) (λ q. omega (arith, a .high)))
+          (height-past n row (node-length n (p .clock u) (p .neighbors u) (p .forming u) (p .height u)) k l)
+
+  same-nodes : {A : Type 0} (f g d : ℕ → A) → ((u : ℕ) → Node n u → f u ≡ g u) → atNodes n f d ≡ atNodes n g d
+  same-nodes f g d h = fun-ext λ u. go u (choice (isNode n u))
+    where
+      go : (u : ℕ) → Choice (isNode n u) → atNodes n f d u ≡ atNodes n g d u
+      go u (no! e) = rw e
+      go u (yes! e) = rw e (h u (node-is n u e))
+
+  -- a function of nodes into functions, and a function of pairs
+  nodes-pairs : {A : Type 0} (f g d : ℕ → ℕ → A) → ((u : ℕ) → Node n u → (v : ℕ) → f u v ≡ cond (isNode n v) (g u v) (d u v))
+      → atNodes n f d ≡ atPairs n g d
+  nodes-pairs f g d h = fun-ext λ u. go u (choice (isNode n u))
+    where
+      go : (u : ℕ) → Choice (isNode n u) → atNodes n f d u ≡ atPairs n g d u
+      go u (no! e) = fun-ext λ v. rw e
+      go u (yes! e) = fun-ext λ v. rw e (h u (node-is n u e) v)
+
+  same-pairs : {A : Type 0} (f g d : ℕ → ℕ → A) → ((u v : ℕ) → Node n u → Node n v → f u v ≡ g u v) → atPairs n f d ≡ atPairs n g d
+  same-pairs f g d h = fun-ext λ u. fun-ext λ v. go u v (choice (isNode n u)) (choice (isNode n v))
+    where
+      go : (u v : ℕ) → Choice (isNode n u) → Choice (isNode n v) → atPairs n f d u v ≡ atPairs n g d u v
+      go u v (no! e) c = rw e
+      go u v (yes! e) (no! c) = rw (e, c)
+      go u v (yes! e) (yes! c) = rw (e, c) (h u v (node-is n u e) (node-is n v c))
+
+  loaded : load n (tablesOf n p) ≡ restrict n p
+  unfolding load restrict nodeWords
+  loaded = λ i. record {
+    clock = same-nodes (clockAt n (tablesOf n p)) (p .clock) (fresh .clock) (λ u a. ap clockIn (node-of u a)) i;
+    neighbors = nodes-pairs (neighborsAt n (tablesOf n p)) (p .neighbors) (fresh .neighbors)
+        (λ u a v. ap (λ (r : List ℕ). member (neighborsIn r) v) (node-of u a) ∙ set-back n (p .neighbors u) v) i;
+    forming = nodes-pairs (formingAt n (tablesOf n p)) (p .forming) (fresh .forming)
+        (λ u a v. ap (λ (r : List ℕ). member (formingIn r) v) (node-of u a) ∙ set-back n (p .forming u) v) i;
+    height = nodes-pairs (heightsAt n (tablesOf n p)) (p .height) (fresh .height)
+        (λ u a v. ap (λ (r : List ℕ). heightIn r v) (node-of u a) ∙ heights-of u a v) i;
+    channel = same-pairs (messagesOn n (tablesOf n p)) (p .channel) (fresh .channel)
+        (λ u v a b. ap queue (cell-of u v a b) ∙ queue-back (p .channel u v) (ok .messages u v a b) (ok .short u v a b)) i;
+  }
+
+  pub load-back : load n (tablesOf n p) ≡ p
+  load-back = loaded ∙ ok .inside
+
+  pub tables-sized : 1 ≤ n → n ≤ 16 → Sized n (tablesOf n p)
+  unfolding tablesOf
+  tables-sized l h =
+      let cells = rows-length (n * cellWidth) n (λ u. rows n (λ v. cellWords (p .channel u v)))
+      (λ u. rows-length cellWidth n (λ v. cellWords (p .channel u v)) (λ v. cell-length (p .channel u v))) in
+      record {
+        low = l;
+        few = h;
+        nodes = rows-length (width n) n (λ u. nodeWords n (p .clock u) (p .neighbors u) (p .forming u) (p .height u))
+            (λ u. node-length n (p .clock u) (p .neighbors u) (p .forming u) (p .height u));
+        channels = cells ∙ omega arith;
+      }
+
+-- ---- a good network is storable
+
+all-wordy : (n u : ℕ) (ms : List Message) → AllFit n u ms → AllWordy ms
+all-wordy n u ms fnil = wnil
+all-wordy n u ms (fcons {m = m} {ms = rest} f fs) = wcons (fits-wordy n u (m .height) f) (all-wordy n u rest fs)
+
+pub storable : (n : ℕ) (p : Network) → Inv n p → Fits n p → Storable n p
+storable n p inv fits = record {
+  inside = restrict-is n p inv fits;
+  heights = λ u v a b. view u v a (equal? v u) (choice (p .neighbors u v));
+  messages = λ u v a b. all-wordy n u (p .channel u v) (fits .messages u v);
+  short = λ u v a b. fits .lengths u v;
+}
+  where
+    view : (u v : ℕ) → Node n u → (v ≡ u) ⊎ (v ≡ u → ⊥) → Choice (p .neighbors u v) → Wordy (p .height u v)
+    view u v a (inl e) i = rw e (fits-wordy n u (p .height u u) (fits .nodes u .own a))
+    view u v a (inr d) (yes! i) = fits-wordy n v (p .height u v) (fits .nodes u .views v i)
+    view u v a (inr d) (no! i) = rw (fits .nodes u .blank v d i) zero-wordy

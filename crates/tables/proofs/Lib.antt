@@ -1,0 +1,9 @@
+-- Laws of the lent tables.
+pub mod RowsLaws
+pub mod WordRuns
+pub mod Wordy
+pub mod RowLaws
+pub mod CellLaws
+pub mod TablesLaws
+pub mod ChangeLaws
+pub mod Back

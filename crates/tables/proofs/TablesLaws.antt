@@ -1,0 +1,90 @@
+-- Tables whose words their network gives back: `tablesOf n (load n t) ≡ t`. What a loaded network holds at a node.
+-- Assumes nothing.
+use Prim.Native.Nat.{ℕ, zero, suc, _+_, _-_, _*_, _<_, _≤_}
+use native.Mathlib.Omega.{arith}
+use mathlib.Core.Bool.{Bool, true, false, cond, _&&_}
+use mathlib.Core.List.{List}
+use mathlib.Core.Path.{_≡_, refl, sym, ap, _∙_}
+use lib.Dec.{leb}
+use lib.ListN.{length}
+use borrow.Author.Tests.{le-leb}
+use Rattle.height.specs.declared.Height.{Height}
+use Rattle.nodeset.specs.NodeSet.{member}
+use Rattle.protocol.specs.Component.{Node}
+use Rattle.protocol.specs.Network.{Message, Network, isNode}
+use Rattle.tables.specs.Cell.{queue, cellWords}
+use Rattle.tables.specs.Load.{load, tablesOf}
+use Rattle.tables.specs.Row.{clockIn, neighborsIn, formingIn, heightIn, nodeWords}
+use Rattle.tables.specs.Rows.{rowAt, rows}
+use Rattle.tables.specs.Tables.{Tables, tables, Sized, width, cellWidth, nodeOf, channelOf, pairOf}
+use Rattle.tables.proofs.CellLaws.{CellFits, cell-back}
+use Rattle.tables.proofs.RowLaws.{RowFits, row-back}
+use Rattle.tables.proofs.RowsLaws.{row-length}
+use Rattle.tables.proofs.WordRuns.{rows-are, row-in}
+
+pub record TablesFit (n : ℕ) (t : Tables) : Type 0 where
+  pub size : Sized n t
+  pub rows : (u : ℕ) → Node n u → RowFits n (nodeOf n u (t .nodes))
+  pub cells : (u v : ℕ) → Node n u → Node n v → CellFits (channelOf n u v (t .channels))
+
+pub is-node : (n u : ℕ) → Node n u → isNode n u ≡ true
+is-node n u a = rw (le-leb 1 u (a .low), le-leb u n (a .high))
+
+-- ---- a loaded network at a node
+
+module _ (n : ℕ) (t : Tables) (u : ℕ) (a : Node n u) where
+  pub load-clock : load n t .clock u ≡ clockIn (nodeOf n u (t .nodes))
+  unfolding load
+  load-clock = rw (is-node n u a)
+
+  pub load-neighbors : load n t .neighbors u ≡ member (neighborsIn (nodeOf n u (t .nodes)))
+  unfolding load
+  load-neighbors = rw (is-node n u a)
+
+  pub load-forming : load n t .forming u ≡ member (formingIn (nodeOf n u (t .nodes)))
+  unfolding load
+  load-forming = rw (is-node n u a)
+
+  pub load-height : load n t .height u ≡ heightIn (nodeOf n u (t .nodes))
+  unfolding load
+  load-height = rw (is-node n u a)
+
+  pub load-channel : (v : ℕ) → Node n v → load n t .channel u v ≡ queue (channelOf n u v (t .channels))
+  unfolding load
+  load-channel v b = rw (is-node n u a, is-node n v b)
+
+-- ---- the tables back
+
+module _ (n : ℕ) (t : Tables) (fit : TablesFit n t) where
+  node-back : (u : ℕ) → Node n u
+      → nodeOf n u (t .nodes) ≡ nodeWords n (load n t .clock u) (load n t .neighbors u) (load n t .forming u) (load n t .height u)
+  node-back u a =
+      row-back n (nodeOf n u (t .nodes)) (fit .rows u a)
+      ∙ sym (rw (load-clock n t u a, load-neighbors n t u a, load-forming n t u a, load-height n t u a))
+
+  nodes-back : t .nodes ≡ rows n (λ u. nodeWords n (load n t .clock u) (load n t .neighbors u) (load n t .forming u) (load n t .height u))
+  nodes-back =
+      rows-are (width n) n (t .nodes) (λ u. nodeWords n (load n t .clock u) (load n t .neighbors u) (load n t .forming u) (load n t .height u))
+      (fit .size .nodes)
+      (λ i l. let e : suc i - 1 ≡ i = omega arith in
+      ap (λ (j : ℕ). rowAt (width n) j (t .nodes)) (sym e) ∙ node-back (suc i) (record { low = omega arith; high = l }))
+
+  pair-suc : (i j : ℕ) → i * n + j ≡ pairOf n (suc i) (suc j)
+  pair-suc i j = let e : suc i - 1 ≡ i = omega arith in let f : suc j - 1 ≡ j = omega arith in rw (e, f)
+
+  cells-back : t .channels ≡ rows n (λ u. rows n (λ v. cellWords (load n t .channel u v)))
+  cells-back =
+      let size : length (t .channels) ≡ n * (n * cellWidth) = omega (arith, fit .size .channels) in
+      rows-are (n * cellWidth) n (t .channels) (λ u. rows n (λ v. cellWords (load n t .channel u v))) size
+      (λ i l. rows-are cellWidth n (rowAt (n * cellWidth) i (t .channels)) (λ v. cellWords (load n t .channel (suc i) v))
+      (row-length (n * cellWidth) n (t .channels) size i l)
+      (λ j m.
+      let a : Node n (suc i) = record { low = omega arith; high = l } in
+      let b : Node n (suc j) = record { low = omega arith; high = m } in
+      row-in cellWidth n i j (t .channels) size l m ∙ ap (λ (k : ℕ). rowAt cellWidth k (t .channels)) (pair-suc i j)
+      ∙ cell-back (channelOf n (suc i) (suc j) (t .channels)) (fit .cells (suc i) (suc j) a b)
+      ∙ ap cellWords (sym (load-channel n t (suc i) a (suc j) b))))
+
+  pub tables-back : tablesOf n (load n t) ≡ t
+  unfolding tablesOf
+  tables-back = λ i. record { nodes = sym nodes-back i; channels = sym cells-back i }

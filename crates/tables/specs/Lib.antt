@@ -1,0 +1,6 @@
+-- The lent tables: rows and cells of words, and the network that they hold.
+pub mod Rows
+pub mod Tables
+pub mod Row
+pub mod Cell
+pub mod Load

@@ -1,0 +1,64 @@
+-- The two lent tables: n rows of 3 + 7n words, a node each, and n times n cells of 65 words, a channel each.
+-- The cells from a node to itself are unused.
+use Prim.Native.Nat.{ℕ, _+_, _-_, _*_, _≤_}
+use mathlib.Core.Bool.{Bool, _&&_}
+use mathlib.Core.List.{List}
+use mathlib.Core.Path.{_≡_}
+use lib.Dec.{eqb, leb}
+use lib.ListN.{length}
+use denote.Ref.{RefT}
+use denote.Triple.Both.{Both}
+use Rattle.tables.specs.Rows.{rowAt, putRow}
+
+pub record Tables : Type 0 where
+  pub nodes : List ℕ
+  pub channels : List ℕ
+
+abbrev pub tables : List ℕ → List ℕ → Tables
+tables ns cs = record { nodes = ns; channels = cs }
+
+-- the tables as they are lent, as they were at entry, as they are left
+abbrev pub given : RefT (List ℕ) → RefT (List ℕ) → Tables
+given nodes channels = tables (nodes .now) (channels .now)
+
+abbrev pub before : {E F : Type 0} → Both (RefT (List ℕ)) E → Both (RefT (List ℕ)) F → Tables
+before nodes channels = tables (nodes .entry .now) (channels .entry .now)
+
+abbrev pub after : {E F : Type 0} → Both E (RefT (List ℕ)) → Both F (RefT (List ℕ)) → Tables
+after nodes channels = tables (nodes .exit .now) (channels .exit .now)
+
+-- words of a node's row: clock, linked set, forming set, n heights of seven words
+abbrev pub width : ℕ → ℕ
+width n = 3 + 7 * n
+
+-- words of a channel's cell: count, eight places of eight words
+abbrev pub cellWidth : ℕ
+cellWidth = 65
+
+-- refusal 1: n outside 1 to 16, or a table not of the length for n
+unfoldable pub sized : ℕ → Tables → Bool
+sized n t =
+    leb n 16 && (leb 1 n && eqb (length (t .nodes)) (n * width n) && eqb (length (t .channels)) (n * n * cellWidth))
+
+pub record Sized (n : ℕ) (t : Tables) : Type 0 where
+  pub low : 1 ≤ n
+  pub few : n ≤ 16
+  pub nodes : length (t .nodes) ≡ n * width n
+  pub channels : length (t .channels) ≡ n * n * cellWidth
+
+-- node u's row
+abbrev pub nodeOf : ℕ → ℕ → List ℕ → List ℕ
+nodeOf n u ns = rowAt (width n) (u - 1) ns
+
+abbrev pub putNode : ℕ → ℕ → List ℕ → List ℕ → List ℕ
+putNode n u row ns = putRow (width n) (u - 1) row ns
+
+-- the cell of channel u to v
+abbrev pub pairOf : ℕ → ℕ → ℕ → ℕ
+pairOf n u v = (u - 1) * n + (v - 1)
+
+abbrev pub channelOf : ℕ → ℕ → ℕ → List ℕ → List ℕ
+channelOf n u v cs = rowAt cellWidth (pairOf n u v) cs
+
+abbrev pub putChannel : ℕ → ℕ → ℕ → List ℕ → List ℕ → List ℕ
+putChannel n u v cell cs = putRow cellWidth (pairOf n u v) cell cs

@@ -1,0 +1,99 @@
+// A channel's cell, and the operations on it: count, first message, append, take the first, clear.
+// Nothing else touches cells, so that a shared store of messages replaces these alone.
+ghost use mathlib.Core.Path.{_≡_};
+ghost use Prim.Native.Nat.{_+_, _≤_, _<_};
+ghost use lib.ListN.{length, replicate};
+ghost use Rattle.height.specs.Words.{Negated};
+ghost use Rattle.tables.specs.Cell.{count, messageAt, appended, taken, emptied, allZero};
+ghost use Rattle.tables.specs.Tables.{cellWidth};
+use height::Height;
+use height::Time;
+
+// How many messages wait.
+pub fn waiting(cell: &[u32]) -> u32
+    requires { ⌜ length (now cell) ≡ cellWidth ⌝ }
+    ensures { λ r. ⌜ r ≡ count (now (cell .entry)) ⌝ }
+{
+    cell[0]
+}
+
+// The first message's height and timestamp.
+pub fn first_height(cell: &[u32]) -> Height
+    requires { ⌜ length (now cell) ≡ cellWidth ⌝ }
+    ensures { λ r. ⌜ (r ≡ messageAt (now (cell .entry)) 1 .height) × Negated (r .pair .nlts .0) ⌝ }
+{
+    height::words::load_height(cell, 1)
+}
+
+pub fn first_timestamp(cell: &[u32]) -> Time
+    requires { ⌜ length (now cell) ≡ cellWidth ⌝ }
+    ensures { λ r. ⌜ r .0 ≡ messageAt (now (cell .entry)) 1 .timestamp ⌝ }
+{
+    Time(cell[8])
+}
+
+// One more message.
+pub fn append(cell: &mut [u32], h: Height, t: Time)
+    requires { ⌜ (length (now cell) ≡ cellWidth) × (count (now cell) < 8) × Negated (h .pair .nlts .0) ⌝ }
+    ensures { λ _. ⌜ now (cell .exit) ≡ appended (now (cell .entry)) h (t .0) ⌝ }
+{
+    let waiting = cell[0];
+    let place = 1 + waiting as usize * 8;
+    height::words::store_height(cell, place, h);
+    cell[place + 7] = t.0;
+    cell[0] = waiting + 1;
+}
+
+// The first message leaves: the others move up one place, and the place that is free is zeroed.
+pub fn take_first(cell: &mut [u32])
+    requires { ⌜ (length (now cell) ≡ cellWidth) × (1 ≤ count (now cell)) ⌝ }
+    ensures { λ _. ⌜ now (cell .exit) ≡ taken (now (cell .entry)) ⌝ }
+{
+    let waiting = cell[0];
+    let mut i = 1;
+    while i < 57 {
+        cell[i] = cell[i + 8];
+        i += 1;
+    }
+    fill_zero(&mut cell[57..65]);
+    cell[0] = waiting - 1;
+}
+
+// The messages are lost.
+pub fn clear(cell: &mut [u32])
+    requires { ⌜ length (now cell) ≡ cellWidth ⌝ }
+    ensures { λ _. ⌜ now (cell .exit) ≡ emptied ⌝ }
+{
+    fill_zero(cell);
+}
+
+// Every word zero.
+pub fn fill_zero(words: &mut [u32])
+    ensures { λ _. ⌜ now (words .exit) ≡ replicate (length (now (words .entry))) 0 ⌝ }
+{
+    let mut i = 0;
+    while i < words.len() {
+        words[i] = 0;
+        i += 1;
+    }
+}
+
+// Whether every word is zero. The sum of all words is looked at once, so that the compiler can add several at a time.
+pub fn all_zero(words: &[u32]) -> bool
+    requires { ⌜ length (now words) ≤ 65536 ⌝ }
+    ensures { λ r. ⌜ r ≡ allZero (now (words .entry)) ⌝ }
+{
+    let mut sum: u64 = 0;
+    let mut i = 0;
+    while i < words.len() {
+        sum += wide(words[i]);
+        i += 1;
+    }
+    sum == 0
+}
+
+fn wide(x: u32) -> u64
+    ensures { λ r. ⌜ r ≡ x ⌝ }
+{
+    x as u64
+}

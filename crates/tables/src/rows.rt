@@ -1,0 +1,114 @@
+// A node's row: where it stands, what it holds, and the one function that writes it.
+ghost use mathlib.Core.Path.{_≡_};
+ghost use Prim.Native.Nat.{_+_, _-_, _*_, _≤_, _<_};
+ghost use lib.ListN.{length};
+ghost use Rattle.height.specs.Words.{Negated};
+ghost use Rattle.protocol.specs.Component.{Node};
+ghost use Rattle.tables.specs.Tables.{width, cellWidth, nodeOf, pairOf, channelOf};
+ghost use Rattle.tables.specs.Row.{clockIn, neighborsIn, formingIn, heightIn, rowWith};
+use height::Height;
+use height::Time;
+
+// Where row i of `count` rows of w words starts.
+fn start(i: usize, w: usize, count: usize) -> usize
+    requires { ⌜ (i < count) × (w ≤ 256) × (count ≤ 256) ⌝ }
+    ensures { λ r. ⌜ (r ≡ i * w) × (r + w ≤ count * w) × (r ≤ 65536) ⌝ }
+{
+    i * w
+}
+
+// Where node u's row starts.
+pub fn node_start(n: u32, u: u32) -> usize
+    requires { ⌜ (n ≤ 16) × Node n u ⌝ }
+    ensures { λ r. ⌜ (r ≡ (u - 1) * width n) × (r + width n ≤ n * width n) × (r ≤ 65536) ⌝ }
+{
+    let count = n as usize;
+    start((u - 1) as usize, 3 + 7 * count, count)
+}
+
+// Where the cell of channel u to v starts.
+pub fn channel_start(n: u32, u: u32, v: u32) -> usize
+    requires { ⌜ (n ≤ 16) × Node n u × Node n v ⌝ }
+    ensures { λ r. ⌜ (r ≡ pairOf n u v * cellWidth) × (r + cellWidth ≤ n * n * cellWidth) × (r ≤ 65536) ⌝ }
+{
+    let count = n as usize;
+    let i = (u - 1) as usize;
+    let j = (v - 1) as usize;
+    start(i * count + j, 65, count * count)
+}
+
+// Node u's row, to be read.
+pub fn node<'a>(n: u32, u: u32, nodes: &'a [u32]) -> &'a [u32]
+    requires { ⌜ (n ≤ 16) × Node n u × (length (now nodes) ≡ n * width n) ⌝ }
+    ensures { λ r. ⌜ (now r ≡ nodeOf n u (now (nodes .entry))) × (length (now r) ≡ width n) ⌝ }
+{
+    let a = node_start(n, u);
+    let e = a + (3 + 7 * (n as usize));
+    &nodes[a..e]
+}
+
+// The cell of channel u to v, to be read.
+pub fn channel<'a>(n: u32, u: u32, v: u32, channels: &'a [u32]) -> &'a [u32]
+    requires { ⌜ (n ≤ 16) × Node n u × Node n v × (length (now channels) ≡ n * n * cellWidth) ⌝ }
+    ensures { λ r. ⌜ (now r ≡ channelOf n u v (now (channels .entry))) × (length (now r) ≡ cellWidth) ⌝ }
+{
+    let a = channel_start(n, u, v);
+    let e = a + 65;
+    &channels[a..e]
+}
+
+// ---- what a row holds
+
+pub fn clock(row: &[u32]) -> Time
+    requires { ⌜ 3 ≤ length (now row) ⌝ }
+    ensures { λ r. ⌜ r .0 ≡ clockIn (now (row .entry)) ⌝ }
+{
+    Time(row[0])
+}
+
+pub fn neighbors(row: &[u32]) -> u16
+    requires { ⌜ (3 ≤ length (now row)) × (neighborsIn (now row) < 65536) ⌝ }
+    ensures { λ r. ⌜ r ≡ neighborsIn (now (row .entry)) ⌝ }
+{
+    row[1] as u16
+}
+
+pub fn forming(row: &[u32]) -> u16
+    requires { ⌜ (3 ≤ length (now row)) × (formingIn (now row) < 65536) ⌝ }
+    ensures { λ r. ⌜ r ≡ formingIn (now (row .entry)) ⌝ }
+{
+    row[2] as u16
+}
+
+// The height of node v in a row.
+pub fn height_in(n: u32, row: &[u32], v: u32) -> Height
+    requires { ⌜ (n ≤ 16) × Node n v × (length (now row) ≡ width n) ⌝ }
+    ensures { λ r. ⌜ (r ≡ heightIn (now (row .entry)) v) × Negated (r .pair .nlts .0) ⌝ }
+{
+    let k = (v - 1) as usize;
+    height::words::load_height(row, 3 + k * 7)
+}
+
+// A row with a new clock, new sets, a view of v and an own height of u.
+pub fn write_row(
+    n: u32,
+    row: &mut [u32],
+    clock: Time,
+    neighbors: u16,
+    forming: u16,
+    v: u32,
+    view: Height,
+    u: u32,
+    own: Height,
+)
+    requires { ⌜ (n ≤ 16) × Node n u × Node n v × (length (now row) ≡ width n) × Negated (view .pair .nlts .0) × Negated (own .pair .nlts .0) ⌝ }
+    ensures { λ _. ⌜ now (row .exit) ≡ rowWith (now (row .entry)) (clock .0) neighbors forming v view u own ⌝ }
+{
+    let j = (v - 1) as usize;
+    let i = (u - 1) as usize;
+    height::words::store_height(row, 3 + j * 7, view);
+    height::words::store_height(row, 3 + i * 7, own);
+    row[0] = clock.0;
+    row[1] = neighbors as u32;
+    row[2] = forming as u32;
+}
