@@ -4,19 +4,19 @@ use Prim.Native.Nat.{ℕ, suc, _≤_}
 use native.Mathlib.Omega.{arith}
 use mathlib.Core.Bool.{Bool, true, false, not, cond, _&&_}
 use mathlib.Core.Path.{_≡_, refl}
-use lib.Dec.{ltb, eqb, leb}
-use borrow.Author.Tests.{eqb-false, not-true, not-false, leb-true, ltb-false}
-use Rattle.height.specs.Clock.{lastTime}
+use lib.Dec.{ltb, eqb}
+use borrow.Author.Tests.{eqb-false, not-true, not-false, ltb-false}
+use Rattle.protocol.specs.Component.{Node}
 use Rattle.protocol.specs.Functions.{every}
 use Rattle.protocol.specs.Network.{Network, isNode}
-use Rattle.protocol.specs.Refusal.{returned, unfit, unfitNumber, tooDeep, hasRoom, misnamed, late, crowded}
+use Rattle.protocol.specs.Refusal.{misnamed, unfit, unfitNumber, late, tooDeep, hasRoom, crowded, returned}
 use Rattle.protocol.specs.Step.{Event, up, down, receive, home, peer, local, cleared}
-use Rattle.protocol.proofs.TestsLaws.{and-left, and-right}
+use Rattle.protocol.proofs.TestsLaws.{and-left, and-right, is-node}
 
 not-equal : (u v : ℕ) → not (eqb u v) ≡ true → u ≡ v → ⊥
 not-equal u v h = eqb-false u v (not-true (eqb u v) h)
 
--- a chain of refusals that ends in 0
+-- the refusals one after the other, of which none applied
 passed : (b : Bool) (k x : ℕ) → cond b (suc k) x ≡ 0 → (b ≡ false) × (x ≡ 0)
 passed true k x e = absurd (omega arith)
 passed false k x e = (refl, e)
@@ -32,6 +32,13 @@ pub record Accepted (n : ℕ) (p : Network) (e : Event) : Type 0 where
   pub intime : local n p e .clock ≤ 4294967295
   pub shallow : tooDeep (local n p e .rule) (local n p e .row (home e) .delta) ≡ false
   pub spacious : every n (hasRoom (local n p e) (cleared p e (home e))) ≡ true
+
+module _ (n : ℕ) (p : Network) (e : Event) (ok : Accepted n p e) where
+  pub home-node : Node n (home e)
+  home-node = record { low = ok .lowU; high = ok .highU }
+
+  pub peer-node : Node n (peer e)
+  peer-node = record { low = ok .lowV; high = ok .highV }
 
 fit-code : (e : Event) → (k : ℕ) × (unfitNumber e ≡ suc k)
 fit-code (up u v) = (3, refl)
@@ -49,13 +56,13 @@ accepted n p e h =
     let s : (isNode n (home e) && isNode n (peer e) && not (eqb (home e) (peer e))) ≡ true = not-false _ (a .0) in
     let d = and-right (isNode n (home e) && isNode n (peer e)) (not (eqb (home e) (peer e))) s in
     let uv = and-left (isNode n (home e) && isNode n (peer e)) (not (eqb (home e) (peer e))) s in
-    let u = and-left (isNode n (home e)) (isNode n (peer e)) uv in
-    let v = and-right (isNode n (home e)) (isNode n (peer e)) uv in
+    let u = is-node n (home e) (and-left (isNode n (home e)) (isNode n (peer e)) uv) in
+    let v = is-node n (peer e) (and-right (isNode n (home e)) (isNode n (peer e)) uv) in
     record {
-      lowU = leb-true 1 (home e) (and-left (leb 1 (home e)) (leb (home e) n) u);
-      highU = leb-true (home e) n (and-right (leb 1 (home e)) (leb (home e) n) u);
-      lowV = leb-true 1 (peer e) (and-left (leb 1 (peer e)) (leb (peer e) n) v);
-      highV = leb-true (peer e) n (and-right (leb 1 (peer e)) (leb (peer e) n) v);
+      lowU = u .low;
+      highU = u .high;
+      lowV = v .low;
+      highV = v .high;
       differ = not-equal (home e) (peer e) d;
       fits = b .0;
       intime = ltb-false 4294967295 (local n p e .clock) (t .0);

@@ -7,7 +7,8 @@ use Rattle.nodeset.specs.NodeSet.{setOf}
 use Rattle.protocol.specs.Cases.{cases, readings, outcomes, expectations}
 use Rattle.protocol.specs.Component.{pairQuiet, nodeQuiet, quiet}
 use Rattle.protocol.specs.Functions.{every, all, update}
-use Rattle.protocol.specs.Holds.{levelHolds, deltaHolds, pairHolds, heightHolds, messageHolds, notInBoth, setsHold, ownHolds, viewHolds, channelHolds, placeHolds, nodeHolds, sound}
+use Rattle.protocol.specs.Holds.{levelHolds, deltaHolds, pairHolds, heightHolds, messageHolds, notInBoth}
+use Rattle.protocol.specs.Holds.{setsHold, ownHolds, viewHolds, channelHolds, placeHolds, nodeHolds, sound}
 use Rattle.protocol.specs.Refusal.{misnamed, late, hasRoom, crowded, returned, accepts, answer, next, nextAll, answers}
 use Rattle.protocol.specs.Rules.{absent, downRule, larger, largest, deltas, ofLevel, oneLevelRule, equalPairsRule, receiptRule}
 use Rattle.protocol.specs.Sink.{above, sink}

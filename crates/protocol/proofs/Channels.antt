@@ -1,17 +1,18 @@
 -- Channels: how long one is after a message is posted, and what an event leaves of one before it sends.
 -- Assumes nothing.
-use Prim.Native.Nat.{ℕ, suc, _+_, _≤_}
+use Prim.Native.Nat.{ℕ, _+_, _≤_}
 use native.Mathlib.Omega.{arith}
 use mathlib.Core.Bool.{Bool, true, false}
-use mathlib.Core.Path.{_≡_, refl, _∙_}
-use mathlib.Core.Logic.{_⊎_, inl, inr}
 use mathlib.Core.List.{List, [], _∷_, tail}
+use mathlib.Core.Path.{_≡_, refl, _∙_}
 use lib.ListN.{length}
+use borrow.Author.Tests.{ne-eqb}
+use Rattle.height.proofs.OrderLaws.{clash}
 use Rattle.nodeset.specs.NodeSet.{digit}
-use Rattle.protocol.specs.Functions.{update}
+use Rattle.protocol.specs.History.{isDown, isReceipt}
 use Rattle.protocol.specs.Network.{Message, Network}
-use Rattle.protocol.specs.Step.{Event, up, down, receive, cleared, post}
-use Rattle.protocol.proofs.TestsLaws.{equal?, update-at, update-off}
+use Rattle.protocol.specs.Step.{Event, up, down, receive, home, cleared, post}
+use Rattle.protocol.proofs.TestsLaws.{Choice, yes!, no!, choice, both-equal, cell-at, cell-off}
 
 pub length-post : (b : Bool) (m : Message) (ms : List Message) → length (post b m ms) ≡ digit b + length ms
 unfolding post
@@ -19,32 +20,47 @@ length-post false m ms = omega arith
 length-post true m [] = refl
 length-post true m (x ∷ ms) = omega (arith, length-post true m ms)
 
+pub no-length : (ms : List Message) → length ms ≡ 0 → ms ≡ []
+no-length [] e = refl
+no-length (m ∷ ms) e = absurd (omega arith)
+
 -- a cleared channel is the channel, its tail, or empty
 pub data Cleared (old new : List Message) : Type 0 where
   isWhole : new ≡ old → Cleared old new
   isTail : new ≡ tail old → Cleared old new
   isGone : new ≡ [] → Cleared old new
 
+pub cleared-down : (p : Network) (e : Event) (a b : ℕ) → isDown e a b ≡ true → cleared p e a b ≡ []
+cleared-down p (up u v) a b i = clash i refl
+cleared-down p (down u v) a b i = cell-at (p .channel) u v [] a b i
+cleared-down p (receive v u) a b i = clash i refl
+
+pub cleared-receipt : (p : Network) (e : Event) (a b : ℕ) → isReceipt e a b ≡ true → cleared p e a b ≡ tail (p .channel a b)
+cleared-receipt p (up u v) a b i = clash i refl
+cleared-receipt p (down u v) a b i = clash i refl
+cleared-receipt p (receive v u) a b i =
+    let q = both-equal a v b u i in
+    cell-at (p .channel) v u (tail (p .channel v u)) a b i ∙ rw (q .0, q .1)
+
+-- only the event's own node takes a channel down
+pub not-down : (e : Event) (a b : ℕ) → (a ≡ home e → ⊥) → isDown e a b ≡ false
+not-down (up u v) a b d = refl
+not-down (down u v) a b d = rw (ne-eqb a u d)
+not-down (receive v u) a b d = refl
+
+-- a channel that neither goes down nor is received from
+pub cleared-off : (p : Network) (e : Event) (a b : ℕ) → isDown e a b ≡ false → isReceipt e a b ≡ false → cleared p e a b ≡ p .channel a b
+cleared-off p (up u v) a b d r = refl
+cleared-off p (down u v) a b d r = cell-off (p .channel) u v [] a b d
+cleared-off p (receive v u) a b d r = cell-off (p .channel) v u (tail (p .channel v u)) a b r
+
 pub cleared-is : (p : Network) (e : Event) (a b : ℕ) → Cleared (p .channel a b) (cleared p e a b)
-cleared-is p (up u v) a b = isWhole refl
-cleared-is p (down u v) a b = go (equal? a u) (equal? b v)
+cleared-is p e a b = go (choice (isDown e a b)) (choice (isReceipt e a b))
   where
-    row : ℕ → List Message
-    row = update (p .channel u) v []
-
-    go : (a ≡ u) ⊎ (a ≡ u → ⊥) → (b ≡ v) ⊎ (b ≡ v → ⊥) → Cleared (p .channel a b) (update (p .channel) u row a b)
-    go (inl e) (inl f) = isGone (rw (e, f, update-at (p .channel) u row, update-at (p .channel u) v []))
-    go (inl e) (inr f) = isWhole (rw (e, update-at (p .channel) u row, update-off (p .channel u) v [] b f))
-    go (inr d) f = isWhole (rw (update-off (p .channel) u row a d))
-cleared-is p (receive v u) a b = go (equal? a v) (equal? b u)
-  where
-    row : ℕ → List Message
-    row = update (p .channel v) u (tail (p .channel v u))
-
-    go : (a ≡ v) ⊎ (a ≡ v → ⊥) → (b ≡ u) ⊎ (b ≡ u → ⊥) → Cleared (p .channel a b) (update (p .channel) v row a b)
-    go (inl e) (inl f) = isTail (rw (e, f, update-at (p .channel) v row, update-at (p .channel v) u (tail (p .channel v u))))
-    go (inl e) (inr f) = isWhole (rw (e, update-at (p .channel) v row, update-off (p .channel v) u (tail (p .channel v u)) b f))
-    go (inr d) f = isWhole (rw (update-off (p .channel) v row a d))
+    go : Choice (isDown e a b) → Choice (isReceipt e a b) → Cleared (p .channel a b) (cleared p e a b)
+    go (yes! d) r = isGone (cleared-down p e a b d)
+    go (no! d) (yes! r) = isTail (cleared-receipt p e a b r)
+    go (no! d) (no! r) = isWhole (cleared-off p e a b d r)
 
 tail-short : (ms : List Message) (k : ℕ) → length ms ≤ k → length (tail ms) ≤ k
 tail-short [] k h = h

@@ -1,13 +1,12 @@
 -- Every state grown from the fresh network is good: it keeps the invariant, is within the ranges, and its history tells what it holds.
 -- Assumes nothing. The theorems read their statements off this one induction.
 use Prim.Native.Nat.{ℕ}
-use mathlib.Core.Bool.{Bool, true, false, cond}
+use mathlib.Core.Bool.{true, cond}
 use mathlib.Core.List.{List, [], _∷_}
 use mathlib.Core.Path.{_≡_, refl}
-use lib.Dec.{eqb}
 use borrow.Author.Tests.{eqb-true}
-use Rattle.protocol.specs.History.{State, started, entry, advance, advanced, grown, Told}
-use Rattle.protocol.specs.Network.{Network, fresh}
+use Rattle.protocol.specs.History.{Told, State, started, entry, advance, advanced, grown}
+use Rattle.protocol.specs.Network.{Network}
 use Rattle.protocol.specs.Refusal.{returned, accepts, next}
 use Rattle.protocol.specs.Step.{Event, step}
 use Rattle.protocol.proofs.Accepted.{Accepted, accepted}

@@ -1,15 +1,13 @@
--- A network that keeps the invariant and is within the ranges passes every test of Holds.antt and of Times.antt.
--- Assumes nothing.
+-- A network passes every test of Holds.antt and of Times.antt.
+-- Assumes that it keeps the invariant and is within the ranges.
 use Prim.Native.Nat.{ℕ, _≤_}
 use native.Mathlib.Omega.{arith}
-use mathlib.Core.Bool.{Bool, true, false, not, cond, _&&_, _||_, and-false}
-use mathlib.Core.Path.{_≡_, refl, sym, _∙_}
-use mathlib.Core.Logic.{_⊎_, inl, inr}
+use mathlib.Core.Bool.{true, not, cond, _&&_, _||_, and-false}
 use mathlib.Core.List.{List, [], _∷_}
-use lib.Dec.{eqb, leb}
-use lib.IntN.{pos, negℤ}
+use mathlib.Core.Logic.{inl, inr}
+use mathlib.Core.Path.{_≡_, refl, sym}
+use lib.Dec.{eqb}
 use lib.ListN.{length}
-use lib.Signed.{leZ}
 use borrow.Author.Tests.{eq-eqb, ne-eqb, le-leb}
 use Rattle.height.specs.Clock.{lastTime}
 use Rattle.height.specs.Height.{heightKey, zeroHeight}
@@ -17,16 +15,16 @@ use Rattle.height.specs.Order.{same}
 use Rattle.height.specs.declared.Height.{Height}
 use Rattle.height.proofs.OrderLaws.{clash, same-refl}
 use Rattle.protocol.specs.Component.{Node}
-use Rattle.protocol.specs.Functions.{every, all}
-use Rattle.protocol.specs.Holds.{messageHolds, heightHolds, notInBoth, setsHold, isEmpty, ownHolds, viewHolds, channelHolds, placeHolds, nodeHolds, sound}
+use Rattle.protocol.specs.Functions.{all}
+use Rattle.protocol.specs.Holds.{heightHolds, messageHolds, notInBoth, setsHold, isEmpty, ownHolds}
+use Rattle.protocol.specs.Holds.{viewHolds, channelHolds, placeHolds, nodeHolds, sound}
 use Rattle.protocol.specs.Network.{Message, Network, upTo, capacity}
 use Rattle.protocol.specs.Times.{timesWithin, messageTimely, pairTimely, nodeTimely, timely}
-use Rattle.protocol.proofs.Invariant.{Inv, Settled, Sound, AllSound, none, some}
-use Rattle.protocol.proofs.LinkLaws.{Link, Half}
-use Rattle.protocol.proofs.Ranges.{height-holds, negated-le}
-use Rattle.protocol.proofs.RuleLaws.{Bounded, byCases}
-use Rattle.protocol.proofs.Soundness.{Fits, Ranged, AllFit, fnil, fcons}
-use Rattle.protocol.proofs.TestsLaws.{Choice, yes!, no!, choice, equal?, and-both, every-all}
+use Rattle.protocol.proofs.Invariant.{AllSound, some, Inv}
+use Rattle.protocol.proofs.Ranges.{negated-le, height-holds}
+use Rattle.protocol.proofs.RuleLaws.{Bounded}
+use Rattle.protocol.proofs.Soundness.{AllFit, fcons, Fits}
+use Rattle.protocol.proofs.TestsLaws.{Choice, yes!, no!, choice, SameOrNot, equal?, and-both, every-all}
 
 -- ---- messages
 
@@ -58,7 +56,7 @@ module _ (n : ℕ) (p : Network) (inv : Inv n p) (fits : Fits n p) where
   unfolding notInBoth
   one-set u v = go (choice (p .neighbors u v)) (equal? u v)
     where
-      go : Choice (p .neighbors u v) → (u ≡ v) ⊎ (u ≡ v → ⊥) → not (p .neighbors u v && p .forming u v) ≡ true
+      go : Choice (p .neighbors u v) → SameOrNot u v → not (p .neighbors u v && p .forming u v) ≡ true
       go (no! i) d = rw i
       go (yes! i) (inl e) = clash (rw (← e) at i) (inv .nodes u .selfN)
       go (yes! i) (inr d) = rw (inv .links u v d .there .apart i, and-false)
@@ -99,7 +97,7 @@ module _ (n : ℕ) (p : Network) (inv : Inv n p) (fits : Fits n p) where
   unfolding placeHolds
   place-holds u v node = go (equal? u v)
     where
-      go : (u ≡ v) ⊎ (u ≡ v → ⊥) → cond (eqb u v) (ownHolds n p u) (viewHolds n p u v && channelHolds n p u v) ≡ true
+      go : SameOrNot u v → cond (eqb u v) (ownHolds n p u) (viewHolds n p u v && channelHolds n p u v) ≡ true
       go (inl e) = rw (eq-eqb u v e) (own-holds u node)
       go (inr d) = rw (ne-eqb u v d) (and-both (view-holds u v d) (channel-holds u v d))
 
@@ -111,6 +109,6 @@ module _ (n : ℕ) (p : Network) (inv : Inv n p) (fits : Fits n p) where
   pub timely-holds : timely n p ≡ true
   unfolding timely nodeTimely pairTimely
   timely-holds =
-      every-all n (nodeTimely n p)
-      (λ u l k. every-all n (pairTimely p u)
-      (λ v i j. and-both (within (p .clock u) (p .height u v) (inv .nodes u .times v)) (messages-timely u (p .clock u) (p .channel u v) (inv .posted u v))))
+      every-all n (nodeTimely n p) (λ u l k. every-all n (pairTimely p u)
+      (λ v i j. and-both (within (p .clock u) (p .height u v) (inv .nodes u .times v))
+      (messages-timely u (p .clock u) (p .channel u v) (inv .posted u v))))

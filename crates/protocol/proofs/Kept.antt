@@ -1,42 +1,34 @@
--- Each event keeps the invariant.
-use Prim.Native.Nat.{ℕ, zero, suc, max, _<_, _≤_}
+-- Each accepted event keeps the invariant (`step-keeps`), and the fresh network has it (`fresh-inv`).
+-- Assumes nothing.
+use Prim.Native.Nat.{ℕ, suc, max, _≤_}
 use native.Mathlib.Omega.{arith}
-use mathlib.Core.Bool.{Bool, true, false, not, cond, _&&_, _||_, or-false, or-true}
-use mathlib.Core.Path.{_≡_, refl, sym, ap, subst, _∙_}
-use mathlib.Core.Logic.{_⊎_, inl, inr}
-use mathlib.Core.List.{List, [], _∷_, _++_, tail}
-use lib.Dec.{ltb, eqb, leb}
-use lib.IntN.{ℤ, pos}
-use borrow.Author.Tests.{eqb-true, eqb-false, eq-eqb, ne-eqb, not-true, not-false, leb-true, ltb-false}
+use mathlib.Core.Bool.{Bool, true, false}
+use mathlib.Core.List.{List, [], _∷_}
+use mathlib.Core.Logic.{inl, inr}
+use mathlib.Core.Path.{_≡_, refl, sym, ap, _∙_, subst}
+use lib.Dec.{eqb}
+use lib.IntN.{pos}
+use borrow.Author.Tests.{eq-eqb, ne-eqb}
 use Rattle.height.specs.Height.{zeroHeight}
-use Rattle.protocol.specs.Functions.{update, every}
-use Rattle.protocol.specs.Holds.{isEmpty}
-use Rattle.protocol.specs.Network.{Message, Network, upTo, isNode, fresh}
-use Rattle.protocol.specs.Rules.{receiptRule, downRule, absent}
-use Rattle.protocol.specs.Sink.{sink}
-use Rattle.protocol.specs.Step.{Local, Event, up, down, receive, sends, heightAfter, post, carried, commit, localUp, localDown, localTaken, localIgnored, localReceipt, step, local, cleared, home, peer}
 use Rattle.height.specs.declared.Height.{Height}
-use Rattle.height.specs.declared.ReferenceLevel.{ReferenceLevel}
-use Rattle.protocol.specs.declared.Rule.{Rule}
-use Rattle.protocol.specs.declared.Rule.the-variants.{AdoptLpIfPriority, ElectSelf, ReflectRefLevel, Ignored, PropagateLargestRefLevel, NoChange, Reply, StartNewRefLevel, ChannelUp}
 use Rattle.height.proofs.OrderLaws.{clash}
+use Rattle.protocol.specs.Functions.{update}
+use Rattle.protocol.specs.Holds.{isEmpty}
+use Rattle.protocol.specs.Network.{Message, Network, upTo, fresh}
+use Rattle.protocol.specs.Rules.{downRule, receiptRule}
+use Rattle.protocol.specs.Step.{Event, up, down, receive, home, peer, heightAfter, sends, Local, carried, localUp}
+use Rattle.protocol.specs.Step.{localDown, localIgnored, localTaken, localReceipt, cleared, post, commit, step}
+use Rattle.protocol.specs.declared.Rule.{Rule}
+use Rattle.protocol.specs.declared.Rule.the-variants.{Ignored, ChannelUp}
 use Rattle.protocol.proofs.Accepted.{Accepted}
-use Rattle.protocol.proofs.TestsLaws.{Choice, yes!, no!, choice, equal?, update-at, update-off, update-all, update-self, and-left, and-right}
-use Rattle.protocol.proofs.RuleLaws.{Bounded, later, PairLe, PairLe-refl, Kept, Sending, toAll, toOne, toNone, Answered, answered, verdict, kept-down, byCases, not-sink-by-leader}
-use Rattle.protocol.proofs.LinkLaws.{Side, Link, Half, isUp, flip, Told, tells, silent, spoken, speak, raised, raise, dropped, drop, drained, ignore, heard, hear}
-use Rattle.protocol.proofs.Invariant.{Sound, AllSound, none, some, Settled, sideOf, Inv, news, commit-inv, sound-tail, sound-later}
-
--- the station after a rule
-settled : (n : ℕ) (N F : ℕ → Bool) (row : ℕ → Height) (u v c : ℕ) (r : Rule) (h : Height) → Kept n N row u v (suc c) r h
-    → ((w : ℕ) → Bounded c (row w)) → ((w : ℕ) → N w ≡ true → row w .id ≡ w) → N u ≡ false → F u ≡ false → Settled n u (suc c) N F (update row u h)
-settled n N F row u v c r h k times seen selfN selfF = record {
-  times = update-all (λ a x. Bounded (suc c) x) row u h (k .bounded) (λ a d. later c (suc c) (row a) (omega arith) (times a));
-  awake = k .awake;
-  mine = rw (update-at row u h) (k .own);
-  seen = update-all (λ a x. N a ≡ true → x .id ≡ a) row u h (λ i. clash i selfN) (λ a d. seen a);
-  selfN = selfN;
-  selfF = selfF;
-}
+use Rattle.protocol.proofs.Channels.{Cleared, isWhole, isTail, isGone, cleared-off, cleared-is}
+use Rattle.protocol.proofs.Invariant.{Sound, AllSound, none, some, Settled, sideOf, Inv, sound-tail, news}
+use Rattle.protocol.proofs.Invariant.{LinkAfter, commit-inv, SameBut, same-all, same-forming, same-updated}
+use Rattle.protocol.proofs.LinkLaws.{Half, Link, Told, tells, silent, spoken, speak, raised}
+use Rattle.protocol.proofs.LinkLaws.{raise, dropped, drop, drained, ignore, heard, hear}
+use Rattle.protocol.proofs.RuleLaws.{byCases, Bounded, later, not-sink-by-leader, verdict, downCases, Sending}
+use Rattle.protocol.proofs.RuleLaws.{toAll, toOne, toNone, Kept, Answered, kept-still, answered, kept-down}
+use Rattle.protocol.proofs.TestsLaws.{SameOrNot, equal?, not-both, update-at, update-off, row-at, row-off, update-all, update-self}
 
 -- what w hears of the rule at u, w not the event's own v
 told : (v : ℕ) (old h : Height) (r : Rule) → Sending v old h r → (w : ℕ) (b : Bool) → (w ≡ v → ⊥) → Told old h (sends v r w b) b
@@ -52,56 +44,152 @@ told-v v old h r (toNone e f) = silent (f v true) e
 sound-head : (c u : ℕ) (m : Message) (ms : List Message) → AllSound c u (m ∷ ms) → Sound c u m
 sound-head c u m ms (some s k) = s
 
+cleared-sound : (c u : ℕ) (old new : List Message) → Cleared old new → AllSound c u old → AllSound c u new
+cleared-sound c u old new (isWhole e) h = rw e h
+cleared-sound c u old new (isTail e) h = rw e (sound-tail c u old h)
+cleared-sound c u old new (isGone e) h = rw e none
+
+-- heights without a time
+unstarted : (c : ℕ) (h : Height) → h .level .tau .0 ≡ 0 → h .pair .nlts .0 ≡ pos 0 → Bounded c h
+unstarted c h t e = record { tau-le = omega arith; election = 0; nlts-is = e; election-le = omega arith }
+
+-- after a down nothing goes to v
 pub down-silent : (n u v : ℕ) (N : ℕ → Bool) (row : ℕ → Height) → sends v (downRule n N row u) v false ≡ false
-unfolding downRule
-down-silent n u v N row = byCases (λ r. sends v r v false ≡ false) (every n (absent N)) ElectSelf (cond (sink n N row u) StartNewRefLevel NoChange) (λ e. refl) λ e. byCases (λ r. sends v r v false ≡ false) (sink n N row u) StartNewRefLevel NoChange (λ s. refl) (λ s. refl)
+down-silent n u v N row = downCases n N row u (λ r. sends v r v false ≡ false) refl (λ _. refl) (λ _. refl)
+
+-- the event e touches no channel but those between its two nodes
+cleared-apart : (p : Network) (e : Event) (a b : ℕ) → (a ≡ home e → b ≡ peer e → ⊥) → (a ≡ peer e → b ≡ home e → ⊥)
+    → cleared p e a b ≡ p .channel a b
+cleared-apart p (up u v) a b h k = refl
+cleared-apart p (down u v) a b h k = cleared-off p (down u v) a b (not-both a u b v h) refl
+cleared-apart p (receive v u) a b h k = cleared-off p (receive v u) a b refl (not-both a v b u k)
+
+-- ---- an event at u with the other node v: what its rule has yet to show
+
+module _ (e : Event) where
+  abbrev u : ℕ
+  u = home e
+
+  abbrev v : ℕ
+  v = peer e
+
+  module _ (n : ℕ) (p : Network) (inv : Inv n p) (other : u ≡ v → ⊥) where
+    -- u's sets and heights before the rule, and the clock c before it moves on
+    record Changed (N F : ℕ → Bool) (row : ℕ → Height) (c : ℕ) : Type 0 where
+      moved : p .clock u ≤ c
+      same : SameBut p u v N F row
+      timely : Bounded c (row v)
+      sender : N v ≡ true → row v .id ≡ v
+
+    module _ (N F : ℕ → Bool) (row : ℕ → Height) (c : ℕ) (k : Changed N F row c) where
+      times : (w : ℕ) → Bounded c (row w)
+      times w = go (equal? w v)
+        where
+          go : SameOrNot w v → Bounded c (row w)
+          go (inl q) = rw q (k .timely)
+          go (inr d) = rw (k .same .sameH w d) (later (p .clock u) c (p .height u w) (k .moved) (inv .nodes u .times w))
+
+      seen : (w : ℕ) → N w ≡ true → row w .id ≡ w
+      seen w i = go (equal? w v)
+        where
+          go : SameOrNot w v → row w .id ≡ w
+          go (inl q) = rw q (k .sender (rw q at i))
+          go (inr d) = rw (k .same .sameH w d) (inv .nodes u .seen w (rw (k .same .sameN w d) at i))
+
+      mine : row u .id ≡ u
+      mine = rw (k .same .sameH u other) (inv .nodes u .mine)
+
+      selfN : N u ≡ false
+      selfN = k .same .sameN u other ∙ inv .nodes u .selfN
+
+      selfF : F u ≡ false
+      selfF = k .same .sameF u other ∙ inv .nodes u .selfF
+
+      carried-keeps : (r : Rule) → Kept n N row u v (suc c) r (heightAfter n N row u v (suc c) r)
+          → LinkAfter p u (carried n N F row u v (suc c) r) (cleared p e) v
+          → Inv n (commit p u (carried n N F row u v (suc c) r) (cleared p e))
+      unfolding carried news drained spoken
+      carried-keeps r kept at-v =
+          commit-inv p u l (cleared p e) n inv settled (omega (arith, k .moved))
+          (λ a b. cleared-sound (p .clock a) a (p .channel a b) (cleared p e a b) (cleared-is p e a b) (inv .posted a b))
+          (λ a b d f. cleared-apart p e a b (λ q _. d q) (λ _ q. f q)) (λ b d. around b d (equal? b v))
+        where
+          l : Local
+          l = carried n N F row u v (suc c) r
+
+          h : Height
+          h = heightAfter n N row u v (suc c) r
+
+          settled : Settled n u (suc c) N F (update row u h)
+          settled = record {
+            times = update-all (λ a x. Bounded (suc c) x) row u h (kept .bounded) (λ a d. later c (suc c) (row a) (omega arith) (times a));
+            awake = kept .awake;
+            mine = rw (update-at row u h) (kept .own);
+            seen = update-all (λ a x. N a ≡ true → x .id ≡ a) row u h (λ i. clash i selfN) (λ a d. seen a);
+            selfN = selfN;
+            selfF = selfF;
+          }
+
+          around : (b : ℕ) → (b ≡ u → ⊥) → SameOrNot b v → LinkAfter p u l (cleared p e) b
+          around b d (inl q) = rw q at-v
+          around b d (inr f) =
+              rw (
+                update-at row u h,
+                update-off row u h b d,
+                k .same .sameN b f,
+                k .same .sameF b f,
+                k .same .sameH b f,
+                cleared-apart p e u b (λ _ q. f q) (λ q _. other q),
+                cleared-apart p e b u (λ q _. d q) (λ q _. f q),
+              )
+              (speak (sideOf p u b) (sideOf p b u) (record { height = h; timestamp = suc c }) (sends v r b (upTo p u b))
+              (rw (k .same .sameH u other) at (kept .falls))
+              (rw (k .same .sameH u other) at (told v (row u) h r (kept .sending) b (upTo p u b) f)) (inv .links u b (λ q. d (sym q))))
+
+-- ---- the events
 
 module _ (n : ℕ) (p : Network) (inv : Inv n p) (u v : ℕ) (other : u ≡ v → ⊥) where
-  kept-U : Kept n (p .neighbors u) (p .height u) u v (suc (p .clock u)) ChannelUp (p .height u u)
-  kept-U = record {
-    awake = rw (update-self (p .height u) u) (inv .nodes u .awake);
-    bounded = later (p .clock u) (suc (p .clock u)) (p .height u u) (omega arith) (inv .nodes u .times u);
-    own = inv .nodes u .mine;
-    falls = PairLe-refl (p .height u u);
-    sending = toOne refl (λ w b. refl);
-  }
+  back : v ≡ u → ⊥
+  back q = other (sym q)
 
-  kept-I : Kept n (p .neighbors u) (p .height u) u v (suc (p .clock u)) Ignored (p .height u u)
-  kept-I = record { awake = kept-U .awake; bounded = kept-U .bounded; own = kept-U .own; falls = kept-U .falls; sending = toNone refl (λ w b. refl) }
+  link : Link (sideOf p u v) (sideOf p v u)
+  link = inv .links u v other
 
   up-keeps : upTo p u v ≡ false → Inv n (step n p (up u v))
   unfolding step localUp carried news drained raised post
-  up-keeps free =
-      commit-inv p u (localUp n p u v) (p .channel) n inv
-      (settled n (p .neighbors u) (update (p .forming u) v true) (p .height u) u v (p .clock u) ChannelUp (p .height u u) kept-U
-      (inv .nodes u .times) (inv .nodes u .seen) (inv .nodes u .selfN) (rw (update-off (p .forming u) v true u other) (inv .nodes u .selfF)))
-      (omega arith) (inv .posted) (λ a b d f. refl) around
+  up-keeps free = carried-keeps (up u v) n p inv other (p .neighbors u) (update (p .forming u) v true) (p .height u) c changed ChannelUp kept at-v
     where
+      c : ℕ
+      c = p .clock u
+
+      changed : Changed (up u v) n p inv other (p .neighbors u) (update (p .forming u) v true) (p .height u) c
+      changed = record {
+        moved = omega arith;
+        same = same-forming p u v;
+        timely = inv .nodes u .times v;
+        sender = inv .nodes u .seen v;
+      }
+
+      kept : Kept n (p .neighbors u) (p .height u) u v (suc c) ChannelUp (p .height u u)
+      kept =
+          kept-still n (p .neighbors u) (p .height u) u v c ChannelUp (inv .nodes u .times u) (inv .nodes u .mine) (inv .nodes u .awake)
+          (toOne refl (λ w b. refl))
+
       m : Message
-      m = record { height = p .height u u; timestamp = suc (p .clock u) }
+      m = record { height = p .height u u; timestamp = suc c }
 
-      row′ : ℕ → Height
-      row′ = update (p .height u) u (p .height u u)
-
-      around : (b : ℕ) → (b ≡ u → ⊥) → Link (record { neighbors = p .neighbors u b; forming = update (p .forming u) v true b; own = row′ u; view = row′ b; outgoing = post (eqb b v) (record { height = row′ u; timestamp = suc (p .clock u) }) (p .channel u b) }) (sideOf p b u)
-      around b d = go (equal? b v)
-        where
-          go : (b ≡ v) ⊎ (b ≡ v → ⊥) → Link (record { neighbors = p .neighbors u b; forming = update (p .forming u) v true b; own = row′ u; view = row′ b; outgoing = post (eqb b v) (record { height = row′ u; timestamp = suc (p .clock u) }) (p .channel u b) }) (sideOf p b u)
-          go (inl e) = rw (e, update-self (p .height u) u, update-at (p .forming u) v true, eq-eqb v v refl) (raise (sideOf p u v) (sideOf p v u) m refl free (inv .links u v other))
-          go (inr f) = rw (update-self (p .height u) u, update-off (p .forming u) v true b f, ne-eqb b v f) (inv .links u b (λ e. d (sym e)))
-
-  -- ---- down
-
-  zero-bounded : (c : ℕ) → Bounded c zeroHeight
-  zero-bounded c = record { tau-le = omega arith; election = 0; nlts-is = refl; election-le = omega arith }
+      at-v : LinkAfter p u (localUp n p u v) (p .channel) v
+      at-v =
+          rw (update-self (p .height u) u, update-at (p .forming u) v true, eq-eqb v v refl)
+          (raise (sideOf p u v) (sideOf p v u) m refl free link)
 
   down-keeps : Inv n (step n p (down u v))
-  unfolding step localDown carried news drained dropped spoken post
-  down-keeps =
-      commit-inv p u (localDown n p u v) ch n inv
-      (settled n N F row u v c r h kept times (set-all₂) selfN selfF)
-      (omega arith) sound (λ a b d f. rw (update-off (p .channel) u (update (p .channel u) v []) a d)) around
+  unfolding step localDown carried news drained dropped post
+  down-keeps = carried-keeps e n p inv other N F row c changed r kept at-v
     where
+      e : Event
+      e = down u v
+
       c : ℕ
       c = p .clock u
 
@@ -114,138 +202,77 @@ module _ (n : ℕ) (p : Network) (inv : Inv n p) (u v : ℕ) (other : u ≡ v �
       row : ℕ → Height
       row = update (p .height u) v zeroHeight
 
-      ch : ℕ → ℕ → List Message
-      ch = update (p .channel) u (update (p .channel u) v [])
-
       r : Rule
       r = downRule n N row u
 
       h : Height
       h = heightAfter n N row u v (suc c) r
 
-      times : (w : ℕ) → Bounded c (row w)
-      times = update-all (λ a x. Bounded c x) (p .height u) v zeroHeight (zero-bounded c) (λ a d. inv .nodes u .times a)
-
-      row-u : row u ≡ p .height u u
-      row-u = update-off (p .height u) v zeroHeight u other
-
-      selfN : N u ≡ false
-      selfN = rw (update-off (p .neighbors u) v false u other) (inv .nodes u .selfN)
-
-      selfF : F u ≡ false
-      selfF = rw (update-off (p .forming u) v false u other) (inv .nodes u .selfF)
-
-      set-all₂ : (w : ℕ) → N w ≡ true → row w .id ≡ w
-      set-all₂ w i = go (equal? w v)
-        where
-          go : (w ≡ v) ⊎ (w ≡ v → ⊥) → row w .id ≡ w
-          go (inl e) = clash (rw e at i) (update-at (p .neighbors u) v false)
-          go (inr d) = rw (update-off (p .height u) v zeroHeight w d) (inv .nodes u .seen w (rw (update-off (p .neighbors u) v false w d) at i))
+      changed : Changed e n p inv other N F row c
+      changed = record {
+        moved = omega arith;
+        same = same-updated p u v false zeroHeight;
+        timely = rw (update-at (p .height u) v zeroHeight) (unstarted c zeroHeight refl refl);
+        sender = λ i. clash i (update-at (p .neighbors u) v false);
+      }
 
       kept : Kept n N row u v (suc c) r h
-      kept = kept-down n N row u v c selfN times (rw row-u (inv .nodes u .mine))
+      kept =
+          kept-down n N row u v c (selfN e n p inv other N F row c changed) (times e n p inv other N F row c changed)
+          (mine e n p inv other N F row c changed)
 
-      sound : (a b : ℕ) → AllSound (p .clock a) a (ch a b)
-      sound a b = go (equal? a u) (equal? b v)
-        where
-          go : (a ≡ u) ⊎ (a ≡ u → ⊥) → (b ≡ v) ⊎ (b ≡ v → ⊥) → AllSound (p .clock a) a (ch a b)
-          go (inl e) (inl f) = rw (e, f, update-at (p .channel) u (update (p .channel u) v []), update-at (p .channel u) v []) none
-          go (inl e) (inr f) = rw (e, update-at (p .channel) u (update (p .channel u) v []), update-off (p .channel u) v [] b f) (inv .posted u b)
-          go (inr d) f = rw (update-off (p .channel) u (update (p .channel u) v []) a d) (inv .posted a b)
-
-      around : (b : ℕ) → (b ≡ u → ⊥) → Link (record { neighbors = N b; forming = F b; own = update row u h u; view = update row u h b; outgoing = post (sends v r b (N b || F b)) (record { height = update row u h u; timestamp = suc c }) (ch u b) }) (drained (sideOf p b u) (ch b u))
-      around b d = go (equal? b v)
-        where
-          go : (b ≡ v) ⊎ (b ≡ v → ⊥) → Link (record { neighbors = N b; forming = F b; own = update row u h u; view = update row u h b; outgoing = post (sends v r b (N b || F b)) (record { height = update row u h u; timestamp = suc c }) (ch u b) }) (drained (sideOf p b u) (ch b u))
-          go (inl e) =
-              rw (
-                e,
-                update-at row u h,
-                update-off row u h v (λ q. other (sym q)),
-                update-at (p .neighbors u) v false,
-                update-at (p .forming u) v false,
-                down-silent n u v N row,
-                update-at (p .channel) u (update (p .channel u) v []),
-                update-at (p .channel u) v [],
-                update-off (p .channel) u (update (p .channel u) v []) v (λ q. other (sym q)),
-              )
-              (drop (sideOf p u v) (sideOf p v u) h (row v) (inv .links u v other))
-          go (inr f) =
-              rw (
-                update-at row u h,
-                update-off row u h b d,
-                update-off (p .neighbors u) v false b f,
-                update-off (p .forming u) v false b f,
-                update-off (p .height u) v zeroHeight b f,
-                update-at (p .channel) u (update (p .channel u) v []),
-                update-off (p .channel u) v [] b f,
-                update-off (p .channel) u (update (p .channel u) v []) b d,
-              )
-              (speak (sideOf p u b) (sideOf p b u) (record { height = h; timestamp = suc c }) (sends v r b (upTo p u b)) (rw row-u at (kept .falls))
-              (rw row-u at (told v (row u) h r (kept .sending) b (upTo p u b) f)) (inv .links u b (λ q. d (sym q))))
-
-  -- ---- receipt
+      at-v : LinkAfter p u (localDown n p u v) (cleared p e) v
+      at-v =
+          rw (
+            update-at row u h,
+            update-off row u h v back,
+            update-at (p .neighbors u) v false,
+            update-at (p .forming u) v false,
+            down-silent n u v N row,
+            row-at (p .channel) u (update (p .channel u) v []) v,
+            update-at (p .channel u) v [],
+            row-off (p .channel) u (update (p .channel u) v []) v u back,
+          )
+          (drop (sideOf p u v) (sideOf p v u) h (row v) link)
 
   module _ (m : Message) (ms : List Message) (queue : p .channel v u ≡ m ∷ ms) where
-    rest : ℕ → List Message
-    rest = update (p .channel v) u (tail (p .channel v u))
+    -- the two channels between u and v, the first message taken
+    taken-v : cleared p (receive v u) v u ≡ ms
+    taken-v = simp (row-at, update-at) (rw queue)
 
-    taking : ℕ → ℕ → List Message
-    taking = update (p .channel) v rest
+    taken-u : cleared p (receive v u) u v ≡ p .channel u v
+    taken-u = simp row-off
 
-    taking-u : (b : ℕ) → taking u b ≡ p .channel u b
-    unfolding taking
-    taking-u b = rw (update-off (p .channel) v rest u other)
-
-    taking-v : taking v u ≡ ms
-    unfolding taking rest
-    taking-v = rw (update-at (p .channel) v rest, update-at (p .channel v) u (tail (p .channel v u)), queue)
-
-    taking-off : (a b : ℕ) → (b ≡ u → ⊥) → taking a b ≡ p .channel a b
-    unfolding taking rest
-    taking-off a b d = go (equal? a v)
-      where
-        go : (a ≡ v) ⊎ (a ≡ v → ⊥) → update (p .channel) v rest a b ≡ p .channel a b
-        go (inl e) = rw (e, update-at (p .channel) v rest, update-off (p .channel v) u (tail (p .channel v u)) b d)
-        go (inr f) = rw (update-off (p .channel) v rest a f)
-
-    taking-other : (a b : ℕ) → (a ≡ v → ⊥) → taking a b ≡ p .channel a b
-    unfolding taking
-    taking-other a b d = rw (update-off (p .channel) v rest a d)
-
-    taking-sound : (a b : ℕ) → AllSound (p .clock a) a (taking a b)
-    taking-sound a b = go (equal? a v) (equal? b u)
-      where
-        go : (a ≡ v) ⊎ (a ≡ v → ⊥) → (b ≡ u) ⊎ (b ≡ u → ⊥) → AllSound (p .clock a) a (taking a b)
-        go (inl e) (inl f) = rw (e, f, taking-v) (rw queue at (sound-tail (p .clock v) v (p .channel v u) (inv .posted v u)))
-        go (inl e) (inr f) = rw (taking-off a b f) (inv .posted a b)
-        go (inr d) f = rw (taking-other a b d) (inv .posted a b)
-
-    ignored-keeps : upTo p u v ≡ false → Inv n (commit p u (localIgnored n p u v (m .timestamp)) taking)
+    ignored-keeps : upTo p u v ≡ false → Inv n (commit p u (localIgnored n p u v (m .timestamp)) (cleared p (receive v u)))
     unfolding localIgnored carried news drained post
-    ignored-keeps free =
-        commit-inv p u (localIgnored n p u v (m .timestamp)) taking n inv
-        (settled n (p .neighbors u) (p .forming u) (p .height u) u v (p .clock u) Ignored (p .height u u) kept-I
-        (inv .nodes u .times) (inv .nodes u .seen) (inv .nodes u .selfN) (inv .nodes u .selfF))
-        (omega arith) taking-sound (λ a b d f. taking-off a b f) around
+    ignored-keeps free = carried-keeps (receive v u) n p inv other (p .neighbors u) (p .forming u) (p .height u) c changed Ignored kept at-v
       where
-        row′ : ℕ → Height
-        row′ = update (p .height u) u (p .height u u)
+        c : ℕ
+        c = p .clock u
 
-        around : (b : ℕ) → (b ≡ u → ⊥) → Link (record { neighbors = p .neighbors u b; forming = p .forming u b; own = row′ u; view = row′ b; outgoing = taking u b }) (drained (sideOf p b u) (taking b u))
-        around b d = go (equal? b v)
-          where
-            go : (b ≡ v) ⊎ (b ≡ v → ⊥) → Link (record { neighbors = p .neighbors u b; forming = p .forming u b; own = row′ u; view = row′ b; outgoing = taking u b }) (drained (sideOf p b u) (taking b u))
-            go (inl e) = rw (e, update-self (p .height u) u, taking-u v, taking-v) (ignore (sideOf p u v) (sideOf p v u) m ms queue free (inv .links u v other))
-            go (inr f) = rw (update-self (p .height u) u, taking-u b, taking-other b u f) (inv .links u b (λ q. d (sym q)))
+        changed : Changed (receive v u) n p inv other (p .neighbors u) (p .forming u) (p .height u) c
+        changed = record {
+          moved = omega arith;
+          same = same-all p u v;
+          timely = inv .nodes u .times v;
+          sender = inv .nodes u .seen v;
+        }
 
-    taken-keeps : 1 ≤ v → v ≤ n → upTo p u v ≡ true → Inv n (commit p u (localTaken n p u v m) taking)
-    unfolding localTaken carried news drained spoken heard
-    taken-keeps low high isup =
-        commit-inv p u (localTaken n p u v m) taking n inv
-        (settled n N F row u v c r h (reply .kept) times seen selfN selfF)
-        (omega arith) taking-sound (λ a b d f. taking-off a b f) around
+        kept : Kept n (p .neighbors u) (p .height u) u v (suc c) Ignored (p .height u u)
+        kept =
+            kept-still n (p .neighbors u) (p .height u) u v c Ignored (inv .nodes u .times u) (inv .nodes u .mine) (inv .nodes u .awake)
+            (toNone refl (λ w b. refl))
+
+        at-v : LinkAfter p u (localIgnored n p u v (m .timestamp)) (cleared p (receive v u)) v
+        at-v = rw (update-self (p .height u) u, taken-u, taken-v) (ignore (sideOf p u v) (sideOf p v u) m ms queue free link)
+
+    taken-keeps : 1 ≤ v → v ≤ n → upTo p u v ≡ true → Inv n (commit p u (localTaken n p u v m) (cleared p (receive v u)))
+    unfolding localTaken carried news drained heard
+    taken-keeps low high isup = carried-keeps e n p inv other N F row c changed r (reply .kept) at-v
       where
+        e : Event
+        e = receive v u
+
         c : ℕ
         c = max (p .clock u) (m .timestamp)
 
@@ -264,61 +291,57 @@ module _ (n : ℕ) (p : Network) (inv : Inv n p) (u v : ℕ) (other : u ≡ v �
         h : Height
         h = heightAfter n N row u v (suc c) r
 
-        back : v ≡ u → ⊥
-        back q = other (sym q)
-
         first : Sound (p .clock v) v m
         first = sound-head (p .clock v) v m ms (rw queue at (inv .posted v u))
-
-        times : (w : ℕ) → Bounded c (row w)
-        times = update-all (λ a x. Bounded c x) (p .height u) v (m .height) (later (m .timestamp) c (m .height) (omega arith) (first .bounded)) (λ a d. later (p .clock u) c (p .height u a) (omega arith) (inv .nodes u .times a))
-
-        row-u : row u ≡ p .height u u
-        row-u = update-off (p .height u) v (m .height) u other
 
         row-v : row v ≡ m .height
         row-v = update-at (p .height u) v (m .height)
 
-        selfN : N u ≡ false
-        selfN = rw (update-off (p .neighbors u) v true u other) (inv .nodes u .selfN)
+        row-u : row u ≡ p .height u u
+        row-u = update-off (p .height u) v (m .height) u other
 
-        selfF : F u ≡ false
-        selfF = rw (update-off (p .forming u) v false u other) (inv .nodes u .selfF)
-
-        seen : (w : ℕ) → N w ≡ true → row w .id ≡ w
-        seen w i = go (equal? w v)
-          where
-            go : (w ≡ v) ⊎ (w ≡ v → ⊥) → row w .id ≡ w
-            go (inl e) = rw (e, row-v) (first .sender)
-            go (inr d) = rw (update-off (p .height u) v (m .height) w d) (inv .nodes u .seen w (rw (update-off (p .neighbors u) v true w d) at i))
+        changed : Changed e n p inv other N F row c
+        changed = record {
+          moved = omega arith;
+          same = same-updated p u v true (m .height);
+          timely = rw row-v (later (m .timestamp) c (m .height) (omega arith) (first .bounded));
+          sender = λ i. rw row-v (first .sender);
+        }
 
         reply : Answered n N row u v (suc c) r h
-        reply = answered n N row u v c selfN times (rw row-u (inv .nodes u .mine)) low high (update-at (p .neighbors u) v true) r (verdict n N row u v)
+        reply =
+            answered n N row u v c (selfN e n p inv other N F row c changed) (times e n p inv other N F row c changed)
+            (mine e n p inv other N F row c changed) low high (update-at (p .neighbors u) v true) r (verdict n N row u v)
 
-        around : (b : ℕ) → (b ≡ u → ⊥) → Link (record { neighbors = N b; forming = F b; own = update row u h u; view = update row u h b; outgoing = post (sends v r b (N b || F b)) (record { height = update row u h u; timestamp = suc c }) (taking u b) }) (drained (sideOf p b u) (taking b u))
-        around b d = go (equal? b v)
-          where
-            go : (b ≡ v) ⊎ (b ≡ v → ⊥) → Link (record { neighbors = N b; forming = F b; own = update row u h u; view = update row u h b; outgoing = post (sends v r b (N b || F b)) (record { height = update row u h u; timestamp = suc c }) (taking u b) }) (drained (sideOf p b u) (taking b u))
-            go (inl e) =
-                rw (e, update-at row u h, update-off row u h v back, update-at (p .neighbors u) v true, update-at (p .forming u) v false, row-v, taking-u v, taking-v)
-                (hear (sideOf p u v) (sideOf p v u) m ms (record { height = h; timestamp = suc c }) (sends v r v true) queue isup
-                (rw row-u at (told-v v (row u) h r (reply .kept .sending))) (rw row-v at (reply .reaches)) (λ z. rw row-v at (reply .back z)) (inv .links u v other))
-            go (inr f) =
-                rw (update-at row u h, update-off row u h b d, update-off (p .neighbors u) v true b f, update-off (p .forming u) v false b f, update-off (p .height u) v (m .height) b f, taking-u b, taking-other b u f)
-                (speak (sideOf p u b) (sideOf p b u) (record { height = h; timestamp = suc c }) (sends v r b (upTo p u b)) (rw row-u at (reply .kept .falls))
-                (rw row-u at (told v (row u) h r (reply .kept .sending) b (upTo p u b) f)) (inv .links u b (λ q. d (sym q))))
+        at-v : LinkAfter p u (localTaken n p u v m) (cleared p e) v
+        at-v =
+            rw (
+              update-at row u h,
+              update-off row u h v back,
+              update-at (p .neighbors u) v true,
+              update-at (p .forming u) v false,
+              row-v,
+              taken-u,
+              taken-v,
+            )
+            (hear (sideOf p u v) (sideOf p v u) m ms (record { height = h; timestamp = suc c }) (sends v r v true) queue isup
+            (rw row-u at (told-v v (row u) h r (reply .kept .sending))) (rw row-v at (reply .reaches)) (λ z. rw row-v at (reply .back z)) link)
 
   receipt-keeps : 1 ≤ v → v ≤ n → isEmpty (p .channel v u) ≡ false → Inv n (step n p (receive v u))
-  unfolding step taking rest
+  unfolding step
   receipt-keeps low high some! = go (p .channel v u) refl
     where
-      go : (q : List Message) → p .channel v u ≡ q → Inv n (commit p u (localReceipt n p u v (p .channel v u)) (update (p .channel) v (update (p .channel v) u (tail (p .channel v u)))))
+      G : Local → Type 0
+      G l = Inv n (commit p u l (cleared p (receive v u)))
+
+      go : (q : List Message) → p .channel v u ≡ q → G (localReceipt n p u v (p .channel v u))
       go [] e = clash (rw e) some!
       go (m ∷ ms) e =
-          let is : localReceipt n p u v (p .channel v u) ≡ cond (upTo p u v) (localTaken n p u v m) (localIgnored n p u v (m .timestamp)) = ap (localReceipt n p u v) e in
-          rw is (byCases (λ l. Inv n (commit p u l (taking m ms e))) (upTo p u v) (localTaken n p u v m) (localIgnored n p u v (m .timestamp)) (λ i. taken-keeps m ms e low high i) (λ i. ignored-keeps m ms e i))
+          subst G (sym (ap (localReceipt n p u v) e))
+          (byCases G (upTo p u v) (localTaken n p u v m) (localIgnored n p u v (m .timestamp))
+          (taken-keeps m ms e low high) (ignored-keeps m ms e))
 
--- ---- every event
+-- ---- every event, and the fresh network
 
 pub step-keeps : (n : ℕ) (p : Network) (e : Event) → Inv n p → Accepted n p e → Inv n (step n p e)
 step-keeps n p (up u v) inv ok = up-keeps n p inv u v (ok .differ) (ok .fits)
@@ -328,9 +351,7 @@ step-keeps n p (receive v u) inv ok = receipt-keeps n p inv u v (ok .differ) (ok
 pub fresh-inv : (n : ℕ) → Inv n fresh
 fresh-inv n = record {
   nodes = λ u. record {
-    times = λ v. byCases (Bounded 0) (eqb u v) _ zeroHeight
-        (λ e. record { tau-le = omega arith; election = 0; nlts-is = refl; election-le = omega arith })
-        (λ e. record { tau-le = omega arith; election = 0; nlts-is = refl; election-le = omega arith });
+    times = λ v. byCases (Bounded 0) (eqb u v) _ zeroHeight (λ e. unstarted 0 _ refl refl) (λ e. unstarted 0 _ refl refl);
     awake = not-sink-by-leader n (fresh .neighbors u) (fresh .height u) u (rw (eq-eqb u u refl));
     mine = rw (eq-eqb u u refl);
     seen = λ v i. clash i refl;

@@ -1,21 +1,21 @@
 -- Quiescent by the history: each component has exactly one leader, a member, and a falling path leads to it from every member.
 -- And quiet read off the network is quiescent by the history. Assumes a good state (Good.antt).
-use Prim.Native.Nat.{ℕ, _+_, _-_}
+use Prim.Native.Nat.{ℕ}
 use native.Mathlib.Omega.{arith}
-use mathlib.Core.Bool.{Bool, true, false, _&&_, Bool·beq}
+use mathlib.Core.Bool.{Bool, true, false, Bool·beq}
 use mathlib.Core.List.{List, [], _∷_}
-use mathlib.Core.Logic.{_⊎_, inl, inr}
+use mathlib.Core.Logic.{inl, inr}
 use mathlib.Core.Path.{_≡_, refl, sym, _∙_, fun-ext}
 use lib.ListN.{length}
 use Rattle.height.proofs.OrderLaws.{clash}
 use Rattle.protocol.specs.Component.{Node, Two, Quiescent, OneLeader, pairQuiet, nodeQuiet, quiet}
-use Rattle.protocol.specs.History.{History, State, upIn, waiting, sentSince, receivedSince, Told}
-use Rattle.protocol.specs.Functions.{every}
+use Rattle.protocol.specs.History.{History, upIn, waiting, State}
 use Rattle.protocol.specs.Holds.{isEmpty}
 use Rattle.protocol.specs.Network.{Message, Network, upTo, own}
+use Rattle.protocol.proofs.Channels.{no-length}
 use Rattle.protocol.proofs.Good.{Good}
 use Rattle.protocol.proofs.Quiescence.{held, one-leader}
-use Rattle.protocol.proofs.TestsLaws.{equal?, and-left, and-right, and-both, every-at, every-all}
+use Rattle.protocol.proofs.TestsLaws.{SameOrNot, equal?, and-left, and-right, every-at, every-all}
 
 pub quiet-leader : (n : ℕ) (s : State) → Good n s → Quiescent n (upIn (s .history)) (waiting (s .history))
     → (u : ℕ) → Node n u → OneLeader n (upIn (s .history)) (own (s .network)) u
@@ -52,36 +52,37 @@ no-message : (ms : List Message) → isEmpty ms ≡ true → length ms ≡ 0
 no-message [] e = refl
 no-message (m ∷ ms) e = clash e refl
 
-empty-length : (ms : List Message) → length ms ≡ 0 → isEmpty ms ≡ true
-empty-length [] e = refl
-empty-length (m ∷ ms) e = absurd (omega arith)
-
 module _ (n : ℕ) (s : State) (g : Good n s) where
+  abbrev p : Network
+  p = s .network
+
   pub quiet-quiescent : quiet n (s .network) ≡ true → Quiescent n (upIn (s .history)) (waiting (s .history))
   unfolding quiet nodeQuiet pairQuiet
   quiet-quiescent e = record { empty = empty; paired = paired }
     where
-      at : (u v : ℕ) → Two n u v → pairQuiet (s .network) u v ≡ true
+      at : (u v : ℕ) → Two n u v → pairQuiet p u v ≡ true
       at u v t =
-          every-at n (pairQuiet (s .network) u) (every-at n (nodeQuiet n (s .network)) e u (t .one .low) (t .one .high)) v (t .other .low) (t .other .high)
+          every-at n (pairQuiet p u) (every-at n (nodeQuiet n p) e u (t .one .low) (t .one .high)) v (t .other .low) (t .other .high)
 
       empty : (u v : ℕ) → Two n u v → waiting (s .history) u v ≡ 0
-      empty u v t = omega (arith, g .told .counts u v, no-message (s .network .channel u v) (and-left (isEmpty (s .network .channel u v)) _ (at u v t)))
+      empty u v t =
+          let none : length (p .channel u v) ≡ 0 = no-message (p .channel u v) (and-left (isEmpty (p .channel u v)) _ (at u v t)) in
+          omega (arith, g .told .counts u v)
 
       paired : (u v : ℕ) → Two n u v → upIn (s .history) u v ≡ upIn (s .history) v u
       paired u v t =
-          g .told .ups u v
-          ∙ (same-bool (upTo (s .network) u v) (upTo (s .network) v u) (and-right (isEmpty (s .network .channel u v)) _ (at u v t)) ∙ sym (g .told .ups v u))
+          let same : upTo p u v ≡ upTo p v u = same-bool _ _ (and-right (isEmpty (p .channel u v)) _ (at u v t)) in
+          g .told .ups u v ∙ (same ∙ sym (g .told .ups v u))
 
   pub quiescent-quiet : Quiescent n (upIn (s .history)) (waiting (s .history)) → quiet n (s .network) ≡ true
   unfolding quiet nodeQuiet pairQuiet
   quiescent-quiet q =
-      every-all n (nodeQuiet n (s .network)) (λ u l k. every-all n (pairQuiet (s .network) u) (λ v i j.
+      every-all n (nodeQuiet n p) (λ u l k. every-all n (pairQuiet p u) (λ v i j.
       go u v (record { low = l; high = k }) (record { low = i; high = j }) (equal? u v)))
     where
-      go : (u v : ℕ) → Node n u → Node n v → (u ≡ v) ⊎ (u ≡ v → ⊥) → pairQuiet (s .network) u v ≡ true
-      go u v a b (inl e) = rw (← e, g .fits .diagonal u) (beq-refl (upTo (s .network) u u))
+      go : (u v : ℕ) → Node n u → Node n v → SameOrNot u v → pairQuiet p u v ≡ true
+      go u v a b (inl e) = rw (← e, g .fits .diagonal u) (beq-refl (upTo p u u))
       go u v a b (inr d) =
           let t : Two n u v = record { one = a; other = b; differ = d } in
-          and-both (empty-length (s .network .channel u v) (omega (arith, g .told .counts u v, q .empty u v t)))
-          (rw (← g .told .ups u v, ← g .told .ups v u, q .paired u v t) (beq-refl (upIn (s .history) v u)))
+          let none : p .channel u v ≡ [] = no-length (p .channel u v) (omega (arith, g .told .counts u v, q .empty u v t)) in
+          rw (none, ← g .told .ups u v, ← g .told .ups v u, q .paired u v t) (beq-refl (upIn (s .history) v u))

@@ -1,18 +1,17 @@
--- Two stations and the two channels between them: what each event does to their agreement.
-use Prim.Native.Nat.{ℕ, zero, suc, _<_, _≤_}
+-- Two nodes and the two channels between them (`Link`): what each kind of event at one of them does to their agreement.
+-- Assumes of the event what its rule guarantees (RuleLaws.antt), as parameters.
+use Prim.Native.Nat.{ℕ}
 use native.Mathlib.Omega.{arith}
-use mathlib.Core.Bool.{Bool, true, false, not, cond, _&&_, _||_, or-false, or-true}
-use mathlib.Core.Path.{_≡_, refl, sym, ap, subst, _∙_}
-use mathlib.Core.Logic.{_⊎_, inl, inr}
+use mathlib.Core.Bool.{Bool, true, false, _||_, or-true}
 use mathlib.Core.List.{List, [], _∷_, _++_}
-use Rattle.protocol.specs.Network.{Message}
-use Rattle.protocol.specs.Step.{post}
+use mathlib.Core.Path.{_≡_, refl, sym, _∙_}
 use Rattle.height.specs.declared.Height.{Height}
 use Rattle.height.proofs.OrderLaws.{clash}
-use Rattle.protocol.proofs.TestsLaws.{Choice, yes!, no!, choice}
-use Rattle.protocol.proofs.RuleLaws.{PairLe, PairLe-refl, PairLe-trans}
+use Rattle.protocol.specs.Network.{Message}
+use Rattle.protocol.specs.Step.{post}
+use Rattle.protocol.proofs.RuleLaws.{PairLe, PairLe-trans}
 
--- one station's side of a link: what it holds of the other, its own height, and the channel to the other
+-- one node's side of a link: what it holds of the other, its own height, and the channel to the other
 pub record Side : Type 0 where
   pub neighbors : Bool
   pub forming : Bool
@@ -28,6 +27,8 @@ abbrev pub newest : Height → List Message → Height
 newest x [] = x
 newest x (m ∷ ms) = newest (m .height) ms
 
+-- last: the newest message that waits holds the sender's own height; idle: no message waits on a channel that is down
+-- known, asked: where no message waits, what s knows of t
 pub record Half (s t : Side) : Type 0 where
   pub last : isUp s ≡ true → newest (s .own) (s .outgoing) ≡ s .own
   pub idle : isUp s ≡ false → s .outgoing ≡ []
@@ -50,19 +51,19 @@ newest-tail : (x y : Height) (ms : List Message) → newest x ms ≡ y → newes
 newest-tail x y [] e = refl
 newest-tail x y (m ∷ ms) e = e
 
-post-not-nil : {X : Type 0} (ms : List Message) (m : Message) → ms ++ (m ∷ []) ≡ [] → X
-post-not-nil [] m e = let z : _≡_ {A = ℕ} 0 1 = cc in absurd (omega arith)
-post-not-nil (k ∷ ms) m e = let z : _≡_ {A = ℕ} 0 1 = cc in absurd (omega arith)
-
 cons-not-nil : {X : Type 0} (ms : List Message) (m : Message) → m ∷ ms ≡ [] → X
 cons-not-nil ms m e = let z : _≡_ {A = ℕ} 0 1 = cc in absurd (omega arith)
+
+post-not-nil : {X : Type 0} (ms : List Message) (m : Message) → ms ++ (m ∷ []) ≡ [] → X
+post-not-nil [] m e = cons-not-nil [] m e
+post-not-nil (k ∷ ms) m e = cons-not-nil (ms ++ (m ∷ [])) k e
 
 -- whether a height h is sent, by b, and what is known where it is not
 pub data Told (old h : Height) (b up : Bool) : Type 0 where
   tells : b ≡ up → Told old h b up
   silent : b ≡ false → h ≡ old → Told old h b up
 
--- ---- an event at s's station that does not concern t
+-- ---- an event at s's node that does not concern t
 
 unfoldable pub spoken : Side → Height → List Message → Side
 spoken s h ms = record { neighbors = s .neighbors; forming = s .forming; own = h; view = s .view; outgoing = ms }
@@ -107,7 +108,8 @@ unsent s t h down k = record {
   };
 }
 
-pub speak : (s t : Side) (m : Message) (b : Bool) → PairLe (m .height) (s .own) → Told (s .own) (m .height) b (isUp s) → Link s t → Link (spoken s (m .height) (post b m (s .outgoing))) t
+pub speak : (s t : Side) (m : Message) (b : Bool) → PairLe (m .height) (s .own) → Told (s .own) (m .height) b (isUp s)
+    → Link s t → Link (spoken s (m .height) (post b m (s .outgoing))) t
 unfolding spoken post
 speak s t m true falls (tells e) k = sent s t m falls (sym e) k
 speak s t m false falls (tells e) k = unsent s t (m .height) (sym e) k
@@ -119,6 +121,7 @@ speak s t m false falls (silent e d) k = rw d k
 unfoldable pub raised : Side → Message → Side
 raised s m = record { neighbors = s .neighbors; forming = true; own = s .own; view = s .view; outgoing = post true m (s .outgoing) }
 
+-- s comes up, and sends its height
 pub raise : (s t : Side) (m : Message) → m .height ≡ s .own → isUp s ≡ false → Link s t → Link (raised s m) t
 unfolding raised post
 raise s t m e down k = record {
@@ -141,6 +144,7 @@ raise s t m e down k = record {
 unfoldable pub dropped : Height → Height → Side
 dropped h view = record { neighbors = false; forming = false; own = h; view = view; outgoing = [] }
 
+-- s goes down
 pub drop : (s t : Side) (h view : Height) → Link s t → Link (dropped h view) t
 unfolding dropped
 drop s t h view k = record {
@@ -160,11 +164,12 @@ drop s t h view k = record {
   };
 }
 
--- ---- a receipt at s's station from t's
+-- ---- a receipt at s's node from t's
 
 unfoldable pub drained : Side → List Message → Side
 drained t ms = record { neighbors = t .neighbors; forming = t .forming; own = t .own; view = t .view; outgoing = ms }
 
+-- s is down: the message is lost
 pub ignore : (s t : Side) (m : Message) (ms : List Message) → t .outgoing ≡ m ∷ ms → isUp s ≡ false → Link s t → Link s (drained t ms)
 unfolding drained
 ignore s t m ms q down k = record {
@@ -188,7 +193,8 @@ unfoldable pub heard : Height → Height → List Message → Side
 heard h view ms = record { neighbors = true; forming = false; own = h; view = view; outgoing = ms }
 
 -- m has come from t and a is sent back if b
-pub hear : (s t : Side) (m : Message) (ms : List Message) (a : Message) (b : Bool) → t .outgoing ≡ m ∷ ms → isUp s ≡ true → Told (s .own) (a .height) b true
+pub hear : (s t : Side) (m : Message) (ms : List Message) (a : Message) (b : Bool)
+    → t .outgoing ≡ m ∷ ms → isUp s ≡ true → Told (s .own) (a .height) b true
     → PairLe (a .height) (m .height) → (b ≡ false → PairLe (m .height) (a .height))
     → Link s t → Link (heard (a .height) (m .height) (post b a (s .outgoing))) (drained t ms)
 unfolding heard drained post

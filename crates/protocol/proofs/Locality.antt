@@ -1,23 +1,21 @@
 -- Locality: an event's answer and what it leaves at its node u depend only on u's record, the channels from u and the channel
 -- received from; and it changes nothing else. Assumes nothing.
 use Prim.Native.Nat.{ℕ}
-use mathlib.Core.Bool.{Bool, true, false, cond, _||_}
+use mathlib.Core.Bool.{true, false, cond}
 use mathlib.Core.List.{List, [], _∷_, tail}
-use mathlib.Core.Path.{_≡_, refl, sym, ap, ap₂, _∙_}
-use mathlib.Core.Logic.{_⊎_, inl, inr}
-use lib.Dec.{eqb}
+use mathlib.Core.Logic.{inl, inr}
+use mathlib.Core.Path.{_≡_, refl, sym, ap, _∙_}
 use borrow.Author.Tests.{eq-eqb}
-use Rattle.height.specs.declared.Height.{Height}
-use Rattle.height.proofs.OrderLaws.{clash}
-use Rattle.protocol.specs.Answer.{Said}
 use Rattle.protocol.specs.Functions.{update}
 use Rattle.protocol.specs.History.{isReceipt}
 use Rattle.protocol.specs.Holds.{isEmpty}
-use Rattle.protocol.specs.Network.{Message, Network, upTo}
-use Rattle.protocol.specs.Refusal.{returned, accepts, answer, unfit, next}
-use Rattle.protocol.specs.Step.{Event, up, down, receive, home, peer, Local, local, localUp, localDown, localTaken, localIgnored, localReceipt, cleared, commit, step, post}
+use Rattle.protocol.specs.Network.{Message, Network}
+use Rattle.protocol.specs.Refusal.{unfit, returned, accepts, answer, next}
+use Rattle.protocol.specs.Step.{Event, up, down, receive, home, Local, localUp, localDown, localIgnored}
+use Rattle.protocol.specs.Step.{localTaken, localReceipt, local, cleared, post, commit, step}
+use Rattle.protocol.proofs.Channels.{cleared-receipt, not-down, cleared-off}
 use Rattle.protocol.proofs.RuleLaws.{byCases}
-use Rattle.protocol.proofs.TestsLaws.{Choice, yes!, no!, choice, equal?, update-at, update-off}
+use Rattle.protocol.proofs.TestsLaws.{Choice, yes!, no!, choice, SameOrNot, equal?, update-at, update-off, row-off}
 
 -- u's record and the channels from u are the same in both
 pub record SameAt (u : ℕ) (p q : Network) : Type 0 where
@@ -59,7 +57,7 @@ module _ (n : ℕ) (p q : Network) where
       taken : Network → ℕ → List Message
       taken x = update (x .channel v) u (tail (x .channel v u))
 
-      go : (u ≡ v) ⊎ (u ≡ v → ⊥) → update (p .channel) v (taken p) u ≡ update (q .channel) v (taken q) u
+      go : SameOrNot u v → update (p .channel) v (taken p) u ≡ update (q .channel) v (taken q) u
       go (inl e) =
           let c : p .channel v ≡ q .channel v = rw e at (s .channel) in
           rw (e, update-at (p .channel) v, update-at (q .channel) v) (ap (λ (f : ℕ → List Message). update f v (tail (f v))) c)
@@ -127,28 +125,12 @@ module _ (n : ℕ) (p : Network) (e : Event) where
       })
       (λ i. record { clock = refl; neighbors = refl; forming = refl; height = refl })
 
-  other-cleared : (a b : ℕ) → (a ≡ home e → ⊥) → isReceipt e a b ≡ false → cleared p e a b ≡ p .channel a b
-  other-cleared a b d r = go e d r
-    where
-      go : (e : Event) → (a ≡ home e → ⊥) → isReceipt e a b ≡ false → cleared p e a b ≡ p .channel a b
-      go (up u v) d r = refl
-      go (down u v) d r = ap (λ (f : ℕ → List Message). f b) (update-off (p .channel) u (update (p .channel u) v []) a d)
-      go (receive v u) d r = taken (equal? a v) (equal? b u)
-        where
-          row : ℕ → List Message
-          row = update (p .channel v) u (tail (p .channel v u))
-
-          taken : (a ≡ v) ⊎ (a ≡ v → ⊥) → (b ≡ u) ⊎ (b ≡ u → ⊥) → update (p .channel) v row a b ≡ p .channel a b
-          taken (inr f) g = ap (λ (f : ℕ → List Message). f b) (update-off (p .channel) v row a f)
-          taken (inl f) (inr g) = rw (f, update-at (p .channel) v row) (update-off (p .channel v) u (tail (p .channel v u)) b g)
-          taken (inl f) (inl g) = clash (rw (eq-eqb a v f, eq-eqb b u g)) r
-
   -- no channel but those from u and the one received from
   pub other-channels : (a b : ℕ) → (a ≡ home e → ⊥) → isReceipt e a b ≡ false → next n p e .channel a b ≡ p .channel a b
   unfolding next step commit
   other-channels a b d r =
       byCases (λ (q : Network). q .channel a b ≡ p .channel a b) (accepts n p e) (step n p e) p
-      (λ i. ap (λ (f : ℕ → List Message). f b) (update-off (cleared p e) (home e) sent a d) ∙ other-cleared a b d r)
+      (λ i. row-off (cleared p e) (home e) sent a b d ∙ cleared-off p e a b (not-down e a b d) r)
       (λ i. refl)
     where
       sent : ℕ → List Message
@@ -159,5 +141,4 @@ pub received-channel : (n : ℕ) (p : Network) (u v : ℕ) → (v ≡ u → ⊥)
     → next n p (receive v u) .channel v u ≡ tail (p .channel v u)
 unfolding next step commit
 received-channel n p u v d i =
-    rw (i, update-off (cleared p (receive v u)) u _ v d, update-at (p .channel) v (update (p .channel v) u (tail (p .channel v u))))
-    (update-at (p .channel v) u (tail (p .channel v u)))
+    rw (i, row-off (cleared p (receive v u)) u _ v u d) (cleared-receipt p (receive v u) v u (rw (eq-eqb v v refl, eq-eqb u u refl)))

@@ -1,35 +1,31 @@
 -- In a quiet network that keeps the invariant, each component has exactly one leader, and a falling path leads to it.
--- Up and waiting are the network's own here; History.antt shows that the history says the same.
+-- Up and waiting are the network's own here; HistoryLaws.antt shows that the history says the same. Assumes the invariant.
 use Prim.Native.Nat.{ℕ, zero, suc, _<_}
 use native.Mathlib.Omega.{arith}
 use mathlib.Core.Bool.{Bool, true, false}
-use mathlib.Core.Path.{_≡_, refl, sym, subst, _∙_}
+use mathlib.Core.List.{List, []}
 use mathlib.Core.Logic.{_⊎_, inl, inr}
-use mathlib.Core.List.{List, [], _∷_}
+use mathlib.Core.Path.{_≡_, refl, sym, subst, _∙_}
 use lib.IntN.{ℤ}
 use lib.ListN.{length}
 use borrow.Author.Tests.{ne-eqb}
 use Rattle.height.specs.Height.{heightKey, levelKey, pairKey}
 use Rattle.height.specs.Order.{before, same}
-use Rattle.height.specs.declared.Height.{Height}
 use Rattle.height.proofs.OrderLaws.{clash, before-total, before-irrefl, before-trans, same-refl}
 use Rattle.nodeset.specs.NodeSet.{sizeOf}
 use Rattle.protocol.specs.Component.{Node, Two, Quiescent, Linked, Joined, alone, link, Descending, arrived, falls, Leader, OneLeader}
 use Rattle.protocol.specs.Functions.{every}
-use Rattle.protocol.specs.Network.{Message, Network, upTo, own}
+use Rattle.protocol.specs.Network.{Network, upTo, own}
 use Rattle.protocol.specs.Sink.{above, sink}
+use Rattle.protocol.proofs.Channels.{no-length}
 use Rattle.protocol.proofs.CountLaws.{sizeOf-lt}
-use Rattle.protocol.proofs.TestsLaws.{Choice, yes!, no!, choice, equal?, every-not, Found}
+use Rattle.protocol.proofs.Invariant.{sideOf, Inv}
+use Rattle.protocol.proofs.LinkLaws.{Link}
 use Rattle.protocol.proofs.RuleLaws.{PairLe}
-use Rattle.protocol.proofs.LinkLaws.{Link, Half}
-use Rattle.protocol.proofs.Invariant.{Inv, Settled, sideOf}
+use Rattle.protocol.proofs.TestsLaws.{Choice, yes!, no!, choice, equal?, Found, every-not}
 
 abbrev pub held : Network → ℕ → ℕ → ℕ
 held p u v = length (p .channel u v)
-
-no-length : (ms : List Message) → length ms ≡ 0 → ms ≡ []
-no-length [] e = refl
-no-length (m ∷ ms) e = absurd (omega arith)
 
 swapped : (n u v : ℕ) → Two n u v → Two n v u
 swapped n u v t = record { one = t .other; other = t .one; differ = λ q. t .differ (sym q) }
@@ -99,7 +95,7 @@ module _ (n : ℕ) (p : Network) (inv : Inv n p) (quiet : Quiescent n (upTo p) (
       go : Choice (below w u) → below w u ≡ true
       go (yes! e) = e
       go (no! e) =
-          let k : heightKey (p .height u u) ≡ heightKey (p .height w w) = before-total (heightKey (p .height u u)) (heightKey (p .height w w)) refl h e in
+          let k = before-total (heightKey (p .height u u)) (heightKey (p .height w w)) refl h e in
           let s : p .height u u .id ≡ p .height w w .id = cc in
           absurd (t .differ (sym (inv .nodes u .mine) ∙ (s ∙ inv .nodes w .mine)))
 
@@ -159,7 +155,7 @@ module _ (n : ℕ) (p : Network) (inv : Inv n p) (quiet : Quiescent n (upTo p) (
     node : Node n leader
     leads : Leader (own p) leader
     member : Joined n (upTo p) u leader
-    chain : Descending n (upTo p) (own p) u leader
+    path : Descending n (upTo p) (own p) u leader
 
   descend : (k u : ℕ) → rank u < k → Node n u → Reached u
   descend zero u h node = absurd (omega arith)
@@ -167,7 +163,7 @@ module _ (n : ℕ) (p : Network) (inv : Inv n p) (quiet : Quiescent n (upTo p) (
       go (λ (w : ℕ) (q : rank w < k) (s : Node n w). descend k w q s) (equal? (p .height u u .pair .lid) u)
     where
       go : ((w : ℕ) → rank w < k → Node n w → Reached w) → (Leader (own p) u) ⊎ (Leader (own p) u → ⊥) → Reached u
-      go ih (inl e) = record { leader = u; node = node; leads = e; member = alone; chain = arrived }
+      go ih (inl e) = record { leader = u; node = node; leads = e; member = alone; path = arrived }
       go ih (inr d) =
           let x = lower u node d in
           let r = rank-falls u (x .to) (x .linked .two .other) (x .lower) in
@@ -177,7 +173,7 @@ module _ (n : ℕ) (p : Network) (inv : Inv n p) (quiet : Quiescent n (upTo p) (
             node = g .node;
             leads = g .leads;
             member = link (x .linked) (g .member);
-            chain = falls (x .linked) (x .lower) (g .chain);
+            path = falls (x .linked) (x .lower) (g .path);
           }
 
   -- equal pairs over a component make two leaders one
@@ -189,6 +185,6 @@ module _ (n : ℕ) (p : Network) (inv : Inv n p) (quiet : Quiescent n (upTo p) (
         node = g .node;
         leads = g .leads;
         member = g .member;
-        chain = g .chain;
+        chain = g .path;
         only = λ w j c. sym c ∙ (sym (joined-leader u w j) ∙ (joined-leader u (g .leader) (g .member) ∙ g .leads));
       }

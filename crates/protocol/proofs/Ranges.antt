@@ -1,33 +1,31 @@
--- The ranges of a height as facts, the tests of Holds.antt read both ways, and the height after each rule.
--- Assumes nothing: what a rule leaves is within the ranges if what it started from was.
-use Prim.Native.Nat.{ℕ, zero, suc, _<_, _≤_}
+-- The ranges of a height as facts: they pass the tests of Holds.antt, and the height that a rule leaves is within them.
+-- Assumes that what the rule starts from is within the ranges, as parameters.
+use Prim.Native.Nat.{ℕ, zero, suc, _≤_}
 use native.Mathlib.Omega.{arith}
 use mathlib.Core.Bool.{Bool, true, false, not, cond, _&&_, _||_}
-use mathlib.Core.Path.{_≡_, refl, sym, ap, _∙_}
-use mathlib.Core.Logic.{_⊎_, inl, inr}
 use mathlib.Core.List.{List, [], _∷_}
-use lib.Dec.{ltb, eqb, leb}
+use mathlib.Core.Logic.{inl, inr}
+use mathlib.Core.Path.{_≡_, refl}
+use lib.Dec.{eqb}
 use lib.IntN.{ℤ, pos, negsuc, negℤ, sucℤ, predℤ}
 use lib.Signed.{ltZ, leZ}
-use borrow.Author.Tests.{eqb-true, eq-eqb, ne-eqb, eqb-false, leb-true, ltb-false, le-leb, le-ltb, not-true}
+use borrow.Author.Tests.{eq-eqb, ne-eqb, leb-true, ltb-false, le-leb, le-ltb}
 use Rattle.height.specs.Clock.{lastTime}
-use Rattle.height.specs.Height.{levelKey, zeroHeight, zeroLevel}
+use Rattle.height.specs.Height.{levelKey, zeroLevel}
 use Rattle.height.specs.Order.{before, same}
 use Rattle.height.specs.declared.Height.{Height}
 use Rattle.height.specs.declared.LeaderPair.{LeaderPair}
 use Rattle.height.specs.declared.ReferenceLevel.{ReferenceLevel}
 use Rattle.height.proofs.OrderLaws.{clash}
 use Rattle.protocol.specs.Component.{Node}
-use Rattle.protocol.specs.Functions.{every}
 use Rattle.protocol.specs.Holds.{levelHolds, leastDelta, greatestDelta, deltaHolds, pairHolds, heightHolds}
 use Rattle.protocol.specs.Refusal.{tooDeep}
-use Rattle.protocol.specs.Rules.{larger, largest, smaller, deltas, smallestFrom, smallest, downRule, absent}
-use Rattle.protocol.specs.Sink.{sink}
+use Rattle.protocol.specs.Rules.{downRule, larger, largest, deltas, smaller, smallestFrom, smallest}
 use Rattle.protocol.specs.Step.{heightAfter}
 use Rattle.protocol.specs.declared.Rule.{Rule}
-use Rattle.protocol.specs.declared.Rule.the-variants.{ElectSelf, StartNewRefLevel, NoChange}
-use Rattle.protocol.proofs.TestsLaws.{and-left, and-right, and-both, equal?}
-use Rattle.protocol.proofs.RuleLaws.{byCases, Verdict, isA, isR, isQ, isF, isE, isS, isP}
+use Rattle.protocol.specs.declared.Rule.the-variants.{ElectSelf, StartNewRefLevel}
+use Rattle.protocol.proofs.RuleLaws.{byCases, Verdict, isA, isR, isQ, isF, isE, isS, isP, downCases}
+use Rattle.protocol.proofs.TestsLaws.{SameOrNot, equal?, and-left}
 
 pub record LevelFits (n : ℕ) (l : ReferenceLevel) : Type 0 where
   pub tau-le : l .tau .0 ≤ lastTime
@@ -53,19 +51,13 @@ pub record HeightFits (n k : ℕ) (h : Height) : Type 0 where
   pub pair : PairFits n (h .pair)
   pub id : h .id ≡ k
 
--- ---- the tests are these facts
+-- ---- such a height passes the tests
 
 leZ-ltZ : (a b : ℤ) → ltZ b a ≡ false → leZ a b ≡ true
 leZ-ltZ (pos a) (pos b) e = le-leb a b (ltb-false b a e)
 leZ-ltZ (pos a) (negsuc b) e = clash refl e
 leZ-ltZ (negsuc a) (pos b) e = refl
 leZ-ltZ (negsuc a) (negsuc b) e = le-leb b a (ltb-false a b e)
-
-ltZ-leZ : (a b : ℤ) → leZ a b ≡ true → ltZ b a ≡ false
-ltZ-leZ (pos a) (pos b) e = le-ltb b a (leb-true a b e)
-ltZ-leZ (pos a) (negsuc b) e = clash e refl
-ltZ-leZ (negsuc a) (pos b) e = refl
-ltZ-leZ (negsuc a) (negsuc b) e = le-ltb a b (leb-true b a e)
 
 pub negated-le : (c e : ℕ) → e ≤ c → leZ (negℤ (pos c)) (negℤ (pos e)) ≡ true
 negated-le zero zero h = refl
@@ -93,7 +85,7 @@ level-holds : (n : ℕ) (l : ReferenceLevel) → LevelFits n l → levelHolds n 
 unfolding levelHolds
 level-holds n l f = rw (le-leb _ lastTime (f .tau-le), le-leb _ n (f .oid-le), le-leb _ 1 (f .r-le)) (go (equal? (l .oid) 0))
   where
-    go : (l .oid ≡ 0) ⊎ (l .oid ≡ 0 → ⊥)
+    go : SameOrNot (l .oid) 0
         → (eqb (l .oid) 0 && (eqb (l .tau .0) 0 && eqb (l .r) 0) || not (eqb (l .oid) 0) && not (eqb (l .tau .0) 0)) ≡ true
     go (inl e) = let z = f .zeros e in rw (eq-eqb _ 0 e, eq-eqb _ 0 (z .0), eq-eqb _ 0 (z .1))
     go (inr d) = rw (ne-eqb _ 0 d, ne-eqb _ 0 (λ t. d (f .unstarted t)))
@@ -117,12 +109,19 @@ height-holds n k h f =
 -- ---- the zero level, the largest level, the smallest depth
 
 pub zero-level : (n : ℕ) → LevelFits n zeroLevel
-zero-level n = record { tau-le = omega arith; oid-le = omega arith; r-le = omega arith; unstarted = λ e. refl; zeros = λ e. (refl, refl) }
+zero-level n = record {
+  tau-le = omega arith;
+  oid-le = omega arith;
+  r-le = omega arith;
+  unstarted = λ e. refl;
+  zeros = λ e. (refl, refl);
+}
 
 pub zero-delta : DeltaFits (pos 0)
 zero-delta = record { low = refl; high = refl }
 
-largest-fits : (n k : ℕ) (N : ℕ → Bool) (row : ℕ → Height) → ((w : ℕ) → N w ≡ true → LevelFits n (row w .level)) → LevelFits n (largest k N row)
+largest-fits : (n k : ℕ) (N : ℕ → Bool) (row : ℕ → Height) → ((w : ℕ) → N w ≡ true → LevelFits n (row w .level))
+    → LevelFits n (largest k N row)
 unfolding largest larger
 largest-fits n zero N row h = zero-level n
 largest-fits n (suc k) N row h = go (largest-fits n k N row h)
@@ -130,22 +129,33 @@ largest-fits n (suc k) N row h = go (largest-fits n k N row h)
     L : ReferenceLevel
     L = largest k N row
 
-    go : LevelFits n L → LevelFits n (cond (N (suc k)) (cond (before (levelKey L) (levelKey (row (suc k) .level))) (row (suc k) .level) L) L)
-    go ih = byCases (LevelFits n) (N (suc k)) _ L (λ i. byCases (LevelFits n) (before (levelKey L) (levelKey (row (suc k) .level))) (row (suc k) .level) L (λ e. h (suc k) i) (λ e. ih)) (λ i. ih)
+    M : ReferenceLevel
+    M = row (suc k) .level
+
+    go : LevelFits n L → LevelFits n (cond (N (suc k)) (larger L M) L)
+    go ih =
+        byCases (LevelFits n) (N (suc k)) (larger L M) L
+        (λ i. byCases (LevelFits n) (before (levelKey L) (levelKey M)) M L (λ e. h (suc k) i) (λ e. ih)) (λ i. ih)
+
+-- at most the greatest depth
+abbrev High : ℤ → Type 0
+High d = ltZ greatestDelta d ≡ false
 
 data AllHigh : List ℤ → Type 0 where
   hnil : AllHigh []
-  hcons : {d : ℤ} {ds : List ℤ} → ltZ (pos 32767) d ≡ false → AllHigh ds → AllHigh (d ∷ ds)
+  hcons : {d : ℤ} {ds : List ℤ} → High d → AllHigh ds → AllHigh (d ∷ ds)
 
-smallestFrom-high : (d : ℤ) (ds : List ℤ) → ltZ (pos 32767) d ≡ false → AllHigh ds → ltZ (pos 32767) (smallestFrom d ds) ≡ false
+smallestFrom-high : (d : ℤ) (ds : List ℤ) → High d → AllHigh ds → High (smallestFrom d ds)
 smallestFrom-high d ds h hnil = h
-smallestFrom-high d ds h (hcons {d = x} {ds = rest} k t) = smallestFrom-high (smaller d x) rest (byCases (λ z. ltZ (pos 32767) z ≡ false) (ltZ d x) d x (λ e. h) (λ e. k)) t
+smallestFrom-high d ds h (hcons {d = x} {ds = rest} k t) =
+    smallestFrom-high (smaller d x) rest (byCases High (ltZ d x) d x (λ e. h) (λ e. k)) t
 
-smallest-high : (ds : List ℤ) → AllHigh ds → ltZ (pos 32767) (smallest ds) ≡ false
+smallest-high : (ds : List ℤ) → AllHigh ds → High (smallest ds)
 smallest-high ds hnil = refl
 smallest-high ds (hcons {d = x} {ds = rest} k t) = smallestFrom-high x rest k t
 
-deltas-high : (k : ℕ) (N : ℕ → Bool) (row : ℕ → Height) (l : ReferenceLevel) → ((w : ℕ) → N w ≡ true → ltZ (pos 32767) (row w .delta) ≡ false) → AllHigh (deltas k N row l)
+deltas-high : (k : ℕ) (N : ℕ → Bool) (row : ℕ → Height) (l : ReferenceLevel) → ((w : ℕ) → N w ≡ true → High (row w .delta))
+    → AllHigh (deltas k N row l)
 unfolding deltas
 deltas-high zero N row l h = hnil
 deltas-high (suc k) N row l h = go (deltas-high k N row l h)
@@ -153,15 +163,20 @@ deltas-high (suc k) N row l h = go (deltas-high k N row l h)
     test : Bool
     test = N (suc k) && same (levelKey (row (suc k) .level)) (levelKey l)
 
-    go : AllHigh (deltas k N row l) → AllHigh (cond test (row (suc k) .delta ∷ deltas k N row l) (deltas k N row l))
-    go ih = byCases AllHigh test (row (suc k) .delta ∷ deltas k N row l) (deltas k N row l) (λ e. hcons (h (suc k) (and-left (N (suc k)) _ e)) ih) (λ e. ih)
+    rest : List ℤ
+    rest = deltas k N row l
 
-pred-high : (d : ℤ) → ltZ (pos 32767) d ≡ false → ltZ (pos 32767) (predℤ d) ≡ false
+    go : AllHigh rest → AllHigh (cond test (row (suc k) .delta ∷ rest) rest)
+    go ih =
+        byCases AllHigh test (row (suc k) .delta ∷ rest) rest
+        (λ e. hcons (h (suc k) (and-left (N (suc k)) _ e)) ih) (λ e. ih)
+
+pred-high : (d : ℤ) → High d → High (predℤ d)
 pred-high (pos zero) h = refl
 pred-high (pos (suc a)) h = le-ltb 32767 a (omega (arith, ltb-false 32767 (suc a) h))
 pred-high (negsuc a) h = refl
 
-suc-low : (d : ℤ) → ltZ d (negsuc 32767) ≡ false → ltZ (sucℤ d) (negsuc 32767) ≡ false
+suc-low : (d : ℤ) → ltZ d leastDelta ≡ false → ltZ (sucℤ d) leastDelta ≡ false
 suc-low (pos a) h = refl
 suc-low (negsuc zero) h = refl
 suc-low (negsuc (suc a)) h = le-ltb 32767 a (omega (arith, ltb-false 32767 (suc a) h))
@@ -169,7 +184,10 @@ suc-low (negsuc (suc a)) h = le-ltb 32767 a (omega (arith, ltb-false 32767 (suc 
 -- ---- the height after a rule
 
 module _ (n : ℕ) (N : ℕ → Bool) (row : ℕ → Height) (u v c : ℕ) (st : Node n u) (own : HeightFits n u (row u)) (intime : suc c ≤ lastTime) where
-  fits-E : HeightFits n u (heightAfter n N row u v (suc c) ElectSelf)
+  abbrev FitsAfter : Rule → Type 0
+  FitsAfter r = HeightFits n u (heightAfter n N row u v (suc c) r)
+
+  fits-E : FitsAfter ElectSelf
   fits-E = record {
     level = zero-level n;
     delta = zero-delta;
@@ -177,15 +195,24 @@ module _ (n : ℕ) (N : ℕ → Bool) (row : ℕ → Height) (u v c : ℕ) (st :
     id = refl;
   }
 
-  fits-S : HeightFits n u (heightAfter n N row u v (suc c) StartNewRefLevel)
+  fits-S : FitsAfter StartNewRefLevel
   fits-S = record {
-    level = record { tau-le = intime; oid-le = st .high; r-le = omega arith; unstarted = λ e. absurd (omega arith); zeros = λ e. absurd (omega (arith, st .low)) };
+    level = record {
+      tau-le = intime;
+      oid-le = st .high;
+      r-le = omega arith;
+      unstarted = λ e. absurd (omega arith);
+      zeros = λ e. absurd (omega (arith, st .low));
+    };
     delta = zero-delta;
     pair = own .pair;
     id = refl;
   }
 
-  pub fits-receipt : N v ≡ true → ((w : ℕ) → N w ≡ true → HeightFits n w (row w)) → (r : Rule) → Verdict n N row u v r → tooDeep r (heightAfter n N row u v (suc c) r .delta) ≡ false → HeightFits n u (heightAfter n N row u v (suc c) r)
+  -- a rule of a receipt, whose depth test passes
+  pub fits-receipt : N v ≡ true → ((w : ℕ) → N w ≡ true → HeightFits n w (row w)) → (r : Rule) → Verdict n N row u v r
+      → tooDeep r (heightAfter n N row u v (suc c) r .delta) ≡ false
+      → HeightFits n u (heightAfter n N row u v (suc c) r)
   fits-receipt inside views r (isA e) ok = record {
     level = views v inside .level;
     delta = record { low = suc-low (row v .delta) (views v inside .delta .low); high = ok };
@@ -197,24 +224,29 @@ module _ (n : ℕ) (N : ℕ → Bool) (row : ℕ → Height) (u v c : ℕ) (st :
   fits-receipt inside views r (isF le t e) ok =
       let l = views v inside .level in
       record {
-        level = record { tau-le = l .tau-le; oid-le = l .oid-le; r-le = omega arith; unstarted = l .unstarted; zeros = λ z. absurd (omega (arith, l .zeros z .0)) };
+        level = record {
+          tau-le = l .tau-le;
+          oid-le = l .oid-le;
+          r-le = omega arith;
+          unstarted = l .unstarted;
+          zeros = λ z. absurd (omega (arith, l .zeros z .0));
+        };
         delta = zero-delta;
         pair = own .pair;
         id = refl;
       }
   fits-receipt inside views r (isE le) ok = fits-E
   fits-receipt inside views r (isS le) ok = fits-S
-  fits-receipt inside views r (isP le f) ok = record {
-    level = largest-fits n n N row (λ w i. views w i .level);
-    delta = record { low = ok; high = pred-high (smallest (deltas n N row (largest n N row))) (smallest-high _ (deltas-high n N row (largest n N row) (λ w i. views w i .delta .high))) };
-    pair = own .pair;
-    id = refl;
-  }
+  fits-receipt inside views r (isP le f) ok =
+      let ds = deltas n N row (largest n N row) in
+      let high = smallest-high ds (deltas-high n N row (largest n N row) (λ w i. views w i .delta .high)) in
+      record {
+        level = largest-fits n n N row (λ w i. views w i .level);
+        delta = record { low = ok; high = pred-high (smallest ds) high };
+        pair = own .pair;
+        id = refl;
+      }
 
-  -- a rule that is no receipt
+  -- the rule of a down
   pub fits-down : HeightFits n u (heightAfter n N row u v (suc c) (downRule n N row u))
-  unfolding downRule
-  fits-down = byCases G (every n (absent N)) ElectSelf (cond (sink n N row u) StartNewRefLevel NoChange) (λ e. fits-E) λ e. byCases G (sink n N row u) StartNewRefLevel NoChange (λ s. fits-S) (λ s. own)
-    where
-      G : Rule → Type 0
-      G r = HeightFits n u (heightAfter n N row u v (suc c) r)
+  fits-down = downCases n N row u FitsAfter fits-E (λ _. fits-S) (λ _. own)

@@ -1,30 +1,26 @@
 -- A network within the ranges is as fresh outside 1 to n: its numbers at the nodes determine it.
 -- Assumes that the network keeps the invariant and is within the ranges.
-use Prim.Native.Nat.{ℕ, zero, suc, _<_, _≤_}
-use native.Mathlib.Omega.{arith}
-use mathlib.Core.Bool.{Bool, true, false, not, cond, _&&_, _||_}
-use mathlib.Core.Path.{_≡_, refl, sym, ap, subst, _∙_, fun-ext}
-use mathlib.Core.Logic.{_⊎_, inl, inr}
-use mathlib.Core.List.{List, [], _∷_}
-use lib.Dec.{leb, eqb}
-use borrow.Author.Tests.{leb-true, leb-false, le-leb, ne-eqb}
-use Rattle.height.specs.Height.{zeroHeight}
-use Rattle.protocol.specs.Network.{Network, Message, isNode, upTo, fresh, atNodes, atPairs, restrict}
-use Rattle.height.specs.declared.Height.{Height}
-use Rattle.protocol.specs.Component.{Node}
+use Prim.Native.Nat.{ℕ}
+use mathlib.Core.Bool.{true, false}
+use mathlib.Core.List.{[]}
+use mathlib.Core.Logic.{inl, inr}
+use mathlib.Core.Path.{_≡_, sym, fun-ext}
+use borrow.Author.Tests.{le-leb, ne-eqb}
 use Rattle.height.proofs.OrderLaws.{clash, not-true-is-false}
-use Rattle.protocol.proofs.TestsLaws.{Choice, yes!, no!, choice, equal?, and-left, and-right}
-use Rattle.protocol.proofs.LinkLaws.{Side, Link, Half}
-use Rattle.protocol.proofs.Invariant.{Inv, sideOf}
-use Rattle.protocol.proofs.Soundness.{Fits, Ranged}
-
-pub is-node : (n u : ℕ) → isNode n u ≡ true → Node n u
-is-node n u e = record { low = leb-true 1 u (and-left (leb 1 u) (leb u n) e); high = leb-true u n (and-right (leb 1 u) (leb u n) e) }
+use Rattle.protocol.specs.Component.{Node}
+use Rattle.protocol.specs.Network.{Network, isNode, fresh, atNodes, atPairs, restrict}
+use Rattle.protocol.proofs.Invariant.{Inv}
+use Rattle.protocol.proofs.Soundness.{Fits}
+pub use Rattle.protocol.proofs.TestsLaws.{is-node}
+use Rattle.protocol.proofs.TestsLaws.{Choice, yes!, no!, choice, SameOrNot, equal?}
 
 no-node : (n u : ℕ) → isNode n u ≡ false → Node n u → ⊥
 no-node n u e s = clash (rw (le-leb 1 u (s .low), le-leb u n (s .high))) e
 
-pairs-is : {A : Type 0} (n : ℕ) (f g : ℕ → ℕ → A) → ((u v : ℕ) → (Node n u → ⊥) → g u v ≡ f u v) → ((u v : ℕ) → Node n u → (Node n v → ⊥) → g u v ≡ f u v) → atPairs n f g ≡ f
+pairs-is : {A : Type 0} (n : ℕ) (f g : ℕ → ℕ → A)
+    → ((u v : ℕ) → (Node n u → ⊥) → g u v ≡ f u v)
+    → ((u v : ℕ) → Node n u → (Node n v → ⊥) → g u v ≡ f u v)
+    → atPairs n f g ≡ f
 pairs-is n f g outU outV = fun-ext λ u. fun-ext λ v. go u v (choice (isNode n u)) (choice (isNode n v))
   where
     go : (u v : ℕ) → Choice (isNode n u) → Choice (isNode n v) → atPairs n f g u v ≡ f u v
@@ -41,11 +37,20 @@ nodes-is n f g out = fun-ext λ u. go u (choice (isNode n u))
 
 pub restrict-is : (n : ℕ) (p : Network) → Inv n p → Fits n p → restrict n p ≡ p
 unfolding restrict
-restrict-is n p inv fits = λ i. record { clock = clocks i; neighbors = links i; forming = forms i; height = heights i; channel = channels i }
+restrict-is n p inv fits = λ i. record {
+  clock = clocks i;
+  neighbors = links i;
+  forming = forms i;
+  height = heights i;
+  channel = channels i;
+}
   where
-    off : (u : ℕ) → (Node n u → ⊥) → (p .clock u ≡ 0) × ((v : ℕ) → p .neighbors u v ≡ false) × ((v : ℕ) → p .forming u v ≡ false) × (p .height u u ≡ fresh .height u u)
+    -- a node outside 1 to n holds nothing
+    off : (u : ℕ) → (Node n u → ⊥)
+        → (p .clock u ≡ 0) × ((v : ℕ) → p .neighbors u v ≡ false) × ((v : ℕ) → p .forming u v ≡ false) × (p .height u u ≡ fresh .height u u)
     off u d = fits .nodes u .outside d
 
+    -- and nothing is held of it
     notN : (u v : ℕ) → (Node n v → ⊥) → p .neighbors u v ≡ false
     notN u v d = not-true-is-false (p .neighbors u v) (λ e. d (fits .nodes u .inN v e))
 
@@ -64,20 +69,22 @@ restrict-is n p inv fits = λ i. record { clock = clocks i; neighbors = links i;
     blank : (u v : ℕ) → (u ≡ v → ⊥) → p .neighbors u v ≡ false → fresh .height u v ≡ p .height u v
     blank u v d e = rw (ne-eqb u v d) (sym (fits .nodes u .blank v (λ q. d (sym q)) e))
 
-    outU : (u v : ℕ) → (Node n u → ⊥) → (u ≡ v) ⊎ (u ≡ v → ⊥) → fresh .height u v ≡ p .height u v
+    outU : (u v : ℕ) → (Node n u → ⊥) → SameOrNot u v → fresh .height u v ≡ p .height u v
     outU u v d (inl e) = rw (← e) (sym (off u d .3))
     outU u v d (inr e) = blank u v e (off u d .1 v)
 
-    outV : (u v : ℕ) → Node n u → (Node n v → ⊥) → (u ≡ v) ⊎ (u ≡ v → ⊥) → fresh .height u v ≡ p .height u v
+    outV : (u v : ℕ) → Node n u → (Node n v → ⊥) → SameOrNot u v → fresh .height u v ≡ p .height u v
     outV u v s d (inl e) = absurd (d (rw e at s))
     outV u v s d (inr e) = blank u v e (notN u v d)
 
     heights : atPairs n (p .height) (fresh .height) ≡ p .height
     heights = pairs-is n (p .height) (fresh .height) (λ u v d. outU u v d (equal? u v)) (λ u v s d. outV u v s d (equal? u v))
 
-    still : (u v : ℕ) → p .neighbors u v ≡ false → p .forming u v ≡ false → (u ≡ v) ⊎ (u ≡ v → ⊥) → [] ≡ p .channel u v
+    still : (u v : ℕ) → p .neighbors u v ≡ false → p .forming u v ≡ false → SameOrNot u v → [] ≡ p .channel u v
     still u v a b (inl e) = rw (← e) (sym (fits .diagonal u))
     still u v a b (inr d) = sym (inv .links u v d .there .idle (rw (a, b)))
 
     channels : atPairs n (p .channel) (fresh .channel) ≡ p .channel
-    channels = pairs-is n (p .channel) (fresh .channel) (λ u v d. still u v (off u d .1 v) (off u d .2 v) (equal? u v)) (λ u v s d. still u v (notN u v d) (notF u v d) (equal? u v))
+    channels =
+        pairs-is n (p .channel) (fresh .channel) (λ u v d. still u v (off u d .1 v) (off u d .2 v) (equal? u v))
+        (λ u v s d. still u v (notN u v d) (notF u v d) (equal? u v))

@@ -1,20 +1,21 @@
 -- Lists of calls: events, saves and restores. The state stays good, and an accepted restore gives back the network at its save.
 -- Assumes the one law of the image that is a parameter here: reading what was written of a sound network gives it back.
 use Prim.Native.Nat.{ℕ}
-use mathlib.Core.Bool.{Bool, true, false, cond, _&&_}
+use native.Mathlib.Omega.{arith}
+use mathlib.Core.Bool.{true, _&&_}
 use mathlib.Core.List.{List, [], _∷_}
-use mathlib.Core.Path.{_≡_, refl, sym, ap, _∙_}
+use mathlib.Core.Path.{_≡_, refl, ap, _∙_}
 use lib.Dec.{eqb, leb}
 use lib.ListN.{length}
 use borrow.Author.Tests.{eqb-true}
 use Rattle.height.proofs.OrderLaws.{clash}
-use Rattle.protocol.specs.Answer.{Said}
 use Rattle.protocol.specs.Component.{Node, Quiescent, OneLeader}
-use Rattle.protocol.specs.History.{History, State, upIn, waiting, Told}
+use Rattle.protocol.specs.History.{upIn, waiting, Told, State}
 use Rattle.protocol.specs.Holds.{sound}
-use Rattle.protocol.specs.Network.{Network, restrict, own}
-use Rattle.protocol.specs.Refusal.{answers, nextAll}
-use Rattle.protocol.specs.Run.{Call, event, save, restore, Reading, got, refused, Saved, RunState, sameBytes, Earlier, never, savedAt, lastSave, historyAt, restored, act, Fair, fairEvent, fairSave, fairSaved, fairRefused, AllFair, fairNil, fairCons, perform, startOfRun}
+use Rattle.protocol.specs.Network.{Network, own, restrict}
+use Rattle.protocol.specs.Refusal.{nextAll, answers}
+use Rattle.protocol.specs.Run.{Call, restore, Reading, got, Saved, RunState, sameBytes, savedAt, lastSave, act, Fair}
+use Rattle.protocol.specs.Run.{fairEvent, fairSave, fairSaved, fairRefused, AllFair, fairNil, fairCons, perform, startOfRun}
 use Rattle.protocol.specs.Step.{Event}
 use Rattle.protocol.proofs.Good.{Good, good-started, good-advance}
 use Rattle.protocol.proofs.Holding.{sound-holds}
@@ -26,7 +27,8 @@ use Rattle.protocol.proofs.TestsLaws.{Choice, yes!, no!, choice, and-le
 -- what is promised of a state: the history tells what the network holds, and a quiet network has one leader in each component
 pub record Promise (n : ℕ) (s : State) : Type 0 where
   pub told : Told (s .history) (s .network)
-  pub leader : Quiescent n (upIn (s .history)) (waiting (s .history)) → (u : ℕ) → Node n u → OneLeader n (upIn (s .history)) (own (s .network)) u
+  pub leader : Quiescent n (upIn (s .history)) (waiting (s .history))
+      → (u : ℕ) → Node n u → OneLeader n (upIn (s .history)) (own (s .network)) u
 
 pub good-promise : (n : ℕ) (s : State) → Good n s → Promise n s
 good-promise n s g = record { told = g .told; leader = quiet-leader n s g }
@@ -61,7 +63,7 @@ module _ (write : ℕ → Network → List ℕ) (read : ℕ → List ℕ → Rea
     good : Good n s
 
   found : (b : List ℕ) (ss : List Saved) → Kept ss → (s : State) → lastSave b ss ≡ savedAt s → Found b s
-  found b [] k s e = let z : _≡_ {A = ℕ} 0 1 = cc in clash {b = true} refl (ap (λ (x : ℕ). eqb x 0) z)
+  found b [] k s e = let z : _≡_ {A = ℕ} 0 1 = cc in absurd (omega arith)
   found b (x ∷ ss) (kcons i g k) s e = go (found b ss k s) (choice (sameBytes b (x .bytes)))
     where
       go : (lastSave b ss ≡ savedAt s → Found b s) → Choice (sameBytes b (x .bytes)) → Found b s

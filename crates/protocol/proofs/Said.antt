@@ -1,16 +1,18 @@
 -- `said` is injective: every number and value of an answer is in what it says. Also: what each kind of answer says, field by field.
 -- Assumes nothing.
 use Prim.Native.Nat.{ℕ}
-use mathlib.Core.Bool.{Bool, true, false, cond}
+use mathlib.Core.Bool.{cond}
 use mathlib.Core.Path.{_≡_, refl, sym, ap, _∙_}
 use lib.Dec.{eqb}
 use Rattle.protocol.specs.Answer.{Said, carriedOut, saidRule, saidRefused, saidWhy, said}
 use Rattle.protocol.specs.declared.Answer.{Answer}
 use Rattle.protocol.specs.declared.Answer.the-variants.{Done, Refused}
 use Rattle.protocol.specs.declared.Refusal.{Refusal}
-use Rattle.protocol.specs.declared.Refusal.the-variants.{Sizes, Fault, NodeNumber, AlreadyUp, AlreadyDown, NoMessage, ClockEnd, DeltaEnd, ChannelFull}
+use Rattle.protocol.specs.declared.Refusal.the-variants.{Sizes, Fault, NodeNumber, AlreadyUp, AlreadyDown}
+use Rattle.protocol.specs.declared.Refusal.the-variants.{NoMessage, ClockEnd, DeltaEnd, ChannelFull}
 use Rattle.protocol.specs.declared.Rule.{Rule}
-use Rattle.protocol.specs.declared.Rule.the-variants.{ChannelUp, ElectSelf, StartNewRefLevel, NoChange, Ignored, ReflectRefLevel, PropagateLargestRefLevel, AdoptLpIfPriority, Reply}
+use Rattle.protocol.specs.declared.Rule.the-variants.{ChannelUp, ElectSelf, StartNewRefLevel, NoChange, Ignored}
+use Rattle.protocol.specs.declared.Rule.the-variants.{ReflectRefLevel, PropagateLargestRefLevel, AdoptLpIfPriority, Reply}
 
 -- an accepted answer says 0, its letter and its set; a refusal says a number and a pair
 pub rule-said : (rule : Rule) (set : ℕ)
@@ -87,18 +89,24 @@ said-injective a b e = sym (answer-back a) ∙ (ap answerFrom e ∙ answer-back 
 -- ---- field by field, for the functions
 
 module _ (a : Answer) (rule : Rule) (set : ℕ) (e : a ≡ Done rule set) where
+  done-said : said a ≡ carriedOut (saidRule rule 0 .rule) set (saidRule rule 0 .adoptedFrom) (saidRule rule 0 .levelTaken)
+  done-said = ap said e ∙ rule-said rule set
+
   pub done-number : said a .number ≡ 0
-  done-number = ap (λ (x : Answer). said x .number) e ∙ ap (λ (s : Said). s .number) (rule-said rule set)
+  done-number = ap (λ (s : Said). s .number) done-said
 
   pub done-letter : said a .rule ≡ saidRule rule 0 .rule
-  done-letter = ap (λ (x : Answer). said x .rule) e ∙ ap (λ (s : Said). s .rule) (rule-said rule set)
+  done-letter = ap (λ (s : Said). s .rule) done-said
 
   pub done-set : said a .sentTo ≡ set
-  done-set = ap (λ (x : Answer). said x .sentTo) e ∙ ap (λ (s : Said). s .sentTo) (rule-said rule set)
+  done-set = ap (λ (s : Said). s .sentTo) done-said
 
 module _ (a : Answer) (why : Refusal) (e : a ≡ Refused why) where
+  refused-said : said a ≡ saidRefused (saidWhy why .number) (saidWhy why .faultAt) (saidWhy why .faultWith)
+  refused-said = ap said e ∙ why-said why
+
   pub refused-letter : said a .rule ≡ 45
-  refused-letter = ap (λ (x : Answer). said x .rule) e ∙ ap (λ (s : Said). s .rule) (why-said why)
+  refused-letter = ap (λ (s : Said). s .rule) refused-said
 
   pub refused-set : said a .sentTo ≡ 0
-  refused-set = ap (λ (x : Answer). said x .sentTo) e ∙ ap (λ (s : Said). s .sentTo) (why-said why)
+  refused-set = ap (λ (s : Said). s .sentTo) refused-said

@@ -1,26 +1,25 @@
 -- The set in an answer holds exactly the nodes sent to: an accepted event sends to nodes 1 to n alone.
 -- Assumes that the network keeps the invariant and is within the ranges.
-use Prim.Native.Nat.{ℕ, _<_, _≤_}
+use Prim.Native.Nat.{ℕ}
 use native.Mathlib.Omega.{arith}
-use mathlib.Core.Bool.{Bool, true, false, cond, _||_}
-use mathlib.Core.Path.{_≡_, refl, sym, ap, _∙_}
-use mathlib.Core.Logic.{_⊎_, inl, inr}
+use mathlib.Core.Bool.{true, _||_}
 use mathlib.Core.List.{List, [], _∷_}
-use lib.Dec.{eqb}
-use borrow.Author.Tests.{eq-eqb}
+use mathlib.Core.Logic.{_⊎_, inl, inr}
+use mathlib.Core.Path.{_≡_, refl, sym, ap, _∙_}
 use Rattle.height.proofs.OrderLaws.{not-true-is-false}
 use Rattle.nodeset.specs.NodeSet.{member, setOf}
 use Rattle.nodeset.proofs.Members.{member-setOf-all}
-use Rattle.protocol.specs.Answer.{Said, saidRule}
+use Rattle.protocol.specs.Answer.{Said}
 use Rattle.protocol.specs.Component.{Node}
 use Rattle.protocol.specs.Network.{Message, Network, upTo}
-use Rattle.protocol.specs.Refusal.{returned, accepts, answer}
-use Rattle.protocol.specs.Step.{Event, up, down, receive, home, peer, Local, local, localUp, localDown, localTaken, localIgnored, localReceipt, carried, sends, step, commit}
-use Rattle.protocol.proofs.Accepted.{Accepted}
+use Rattle.protocol.specs.Refusal.{accepts, answer}
+use Rattle.protocol.specs.Step.{Event, up, down, receive, home, peer, sends, Local, carried, localUp}
+use Rattle.protocol.specs.Step.{localDown, localIgnored, localTaken, localReceipt, local, commit, step}
+use Rattle.protocol.proofs.Accepted.{Accepted, peer-node}
 use Rattle.protocol.proofs.Invariant.{Inv}
 use Rattle.protocol.proofs.RuleLaws.{byCases}
 use Rattle.protocol.proofs.Said.{rule-said}
-use Rattle.protocol.proofs.Soundness.{Fits, step-fits, sends-in, either}
+use Rattle.protocol.proofs.Soundness.{Fits, sends-in, either, step-fits}
 use Rattle.protocol.proofs.TestsLaws.{update-at}
 
 -- every event sends by its rule
@@ -54,7 +53,7 @@ module _ (n : ℕ) (p : Network) (e : Event) (inv : Inv n p) (fits : Fits n p) (
 
       go : ((local n p e .neighbors w || local n p e .forming w) ≡ true) ⊎ (w ≡ peer e) → Node n w
       go (inl i) = either (local n p e .neighbors w) (local n p e .forming w) i inN inF
-      go (inr q) = rw q (record { low = ok .lowV; high = ok .highV })
+      go (inr q) = rw q (peer-node n p e ok)
 
   pub sent-member : (w : ℕ) → member (setOf n (local n p e .sent)) w ≡ local n p e .sent w
   sent-member w =

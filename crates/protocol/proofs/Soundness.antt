@@ -1,43 +1,39 @@
 -- Every network grown from the fresh one is within the ranges, and is as fresh outside 1 to n.
--- Assumes nothing; uses the invariant (Kept.antt) for what a node's sets never hold.
-use Prim.Native.Nat.{ℕ, zero, suc, max, _<_, _≤_, _+_}
+-- Assumes the invariant of each network on the way (Kept.antt): a node is in neither of its own sets.
+use Prim.Native.Nat.{ℕ, suc, max, _<_, _≤_}
 use native.Mathlib.Omega.{arith}
-use mathlib.Core.Bool.{Bool, true, false, not, cond, _&&_, _||_, or-true, and-false}
-use mathlib.Core.Path.{_≡_, refl, sym, ap, subst, _∙_}
+use mathlib.Core.Bool.{Bool, true, false, _||_}
+use mathlib.Core.List.{List, [], _∷_, tail}
 use mathlib.Core.Logic.{_⊎_, inl, inr}
-use mathlib.Core.List.{List, [], _∷_, _++_, tail}
-use lib.IntN.{ℤ, pos, negsuc, negℤ, sucℤ, predℤ}
-use lib.Signed.{ltZ}
-use lib.Dec.{ltb, eqb, leb}
+use mathlib.Core.Path.{_≡_, refl, sym, ap, subst, _∙_}
 use lib.ListN.{length}
-use borrow.Author.Tests.{eqb-true, eqb-false, eq-eqb, ne-eqb, not-true, not-false, leb-true, ltb-true, ltb-false, lt-ltb, le-ltb}
-use Rattle.height.specs.Order.{before, same}
-use Rattle.height.specs.Height.{levelKey, zeroHeight, zeroLevel}
-use Rattle.protocol.specs.Functions.{update, every}
-use Rattle.protocol.specs.Holds.{isEmpty}
-use Rattle.protocol.specs.Network.{Message, Network, upTo, isNode, fresh}
-use Rattle.protocol.specs.Refusal.{next, returned, tooDeep, hasRoom}
-use Rattle.protocol.specs.Rules.{larger, largest, smaller, deltas, smallestFrom, smallest, receiptRule, downRule, absent, ofLevel}
-use Rattle.protocol.specs.Sink.{sink}
-use Rattle.protocol.specs.Step.{Local, Event, up, down, receive, home, peer, local, cleared, sends, heightAfter, post, carried, commit, localUp, localDown, localTaken, localIgnored, localReceipt, step}
-use Rattle.height.specs.declared.Height.{Height}
-use Rattle.height.specs.declared.ReferenceLevel.{ReferenceLevel}
-use Rattle.height.specs.declared.LeaderPair.{LeaderPair}
-use Rattle.protocol.specs.declared.Rule.{Rule}
-use Rattle.protocol.specs.declared.Rule.the-variants.{AdoptLpIfPriority, ElectSelf, ReflectRefLevel, Ignored, PropagateLargestRefLevel, NoChange, Reply, StartNewRefLevel, ChannelUp}
-use Rattle.protocol.specs.Component.{Node}
+use borrow.Author.Tests.{eqb-true, eq-eqb, ne-eqb, ltb-true}
 use Rattle.height.specs.Clock.{lastTime}
-use Rattle.protocol.proofs.Ranges.{HeightFits, zero-level, zero-delta, fits-down, fits-receipt}
-use Rattle.height.proofs.OrderLaws.{clash, ltZ-trans, ltZ-irrefl, not-true-is-false}
-use Rattle.protocol.proofs.TestsLaws.{Choice, yes!, no!, choice, equal?, update-at, update-off, update-all, update-self, every-at, and-left, and-right}
-use Rattle.protocol.proofs.RuleLaws.{byCases, Verdict, verdict, isA, isR, isQ, isF, isE, isS, isP}
-use Rattle.protocol.proofs.Channels.{length-post, Cleared, cleared-is, cleared-short, cleared-nil, isWhole, isTail, isGone}
-use Rattle.protocol.proofs.Invariant.{Inv, Settled}
-use Rattle.protocol.proofs.Accepted.{Accepted}
+use Rattle.height.specs.Height.{zeroHeight}
+use Rattle.height.specs.declared.Height.{Height}
+use Rattle.height.proofs.OrderLaws.{not-true-is-false, clash}
+use Rattle.protocol.specs.Component.{Node}
+use Rattle.protocol.specs.Functions.{every, update}
+use Rattle.protocol.specs.Holds.{isEmpty}
+use Rattle.protocol.specs.Network.{Message, Network, upTo, freshHeight, fresh}
+use Rattle.protocol.specs.Refusal.{tooDeep, hasRoom}
+use Rattle.protocol.specs.Rules.{downRule, receiptRule}
+use Rattle.protocol.specs.Step.{Event, up, down, receive, home, peer, heightAfter, sends, Local, carried, localUp}
+use Rattle.protocol.specs.Step.{localDown, localIgnored, localTaken, localReceipt, local, cleared, post, commit, step}
+use Rattle.protocol.specs.declared.Rule.{Rule}
+use Rattle.protocol.specs.declared.Rule.the-variants.{AdoptLpIfPriority, ElectSelf, ReflectRefLevel, Ignored}
+use Rattle.protocol.specs.declared.Rule.the-variants.{PropagateLargestRefLevel, NoChange, Reply, StartNewRefLevel, ChannelUp}
+use Rattle.protocol.proofs.Accepted.{Accepted, home-node, peer-node}
+use Rattle.protocol.proofs.Channels.{length-post, Cleared, isWhole, isTail, isGone, cleared-is, cleared-short, cleared-nil}
+use Rattle.protocol.proofs.Invariant.{Inv, SameBut, same-all, same-forming, same-updated}
+use Rattle.protocol.proofs.Ranges.{HeightFits, zero-level, zero-delta, fits-receipt, fits-down}
+use Rattle.protocol.proofs.RuleLaws.{byCases, verdict}
+use Rattle.protocol.proofs.TestsLaws.{Choice, yes!, no!, choice, SameOrNot, equal?, every-at}
+use Rattle.protocol.proofs.TestsLaws.{update-at, update-off, row-at, row-off, update-all}
 
--- ---- stations and channels
+-- ---- nodes and channels
 
--- one station within the ranges, and as fresh if it is outside 1 to n
+-- one node within the ranges, and as fresh if it is outside 1 to n
 pub record Ranged (n u c : ℕ) (N F : ℕ → Bool) (row : ℕ → Height) : Type 0 where
   pub clock-le : c ≤ lastTime
   pub own : Node n u → HeightFits n u (row u)
@@ -70,19 +66,12 @@ fit-tail n u ms (fcons h k) = k
 fit-head : (n u : ℕ) (m : Message) (ms : List Message) → AllFit n u (m ∷ ms) → HeightFits n u (m .height)
 fit-head n u m ms (fcons h k) = h
 
--- the station after a rule
-ranged : (n : ℕ) (N F : ℕ → Bool) (row : ℕ → Height) (u t : ℕ) (h : Height) → Node n u → t ≤ lastTime → HeightFits n u h
-    → ((w : ℕ) → N w ≡ true → HeightFits n w (row w)) → ((w : ℕ) → (w ≡ u → ⊥) → N w ≡ false → row w ≡ zeroHeight) → ((w : ℕ) → N w ≡ true → Node n w) → ((w : ℕ) → F w ≡ true → Node n w) → N u ≡ false
-    → Ranged n u t N F (update row u h)
-ranged n N F row u t h st intime fits views blank inN inF selfN = record {
-  clock-le = intime;
-  own = λ _. rw (update-at row u h) fits;
-  views = update-all (λ a x. N a ≡ true → HeightFits n a x) row u h (λ i. clash i selfN) (λ a d i. views a i);
-  blank = update-all (λ a x. (a ≡ u → ⊥) → N a ≡ false → x ≡ zeroHeight) row u h (λ d i. absurd (d refl)) (λ a d e i. blank a d i);
-  inN = inN;
-  inF = inF;
-  outside = λ d. absurd (d st);
-}
+cleared-fit : (n u : ℕ) (old new : List Message) → Cleared old new → AllFit n u old → AllFit n u new
+cleared-fit n u old new (isWhole e) h = rw e h
+cleared-fit n u old new (isTail e) h = rw e (fit-tail n u old h)
+cleared-fit n u old new (isGone e) h = rw e fnil
+
+-- ---- the network after an event at u that leaves l there, sent over the channels ch
 
 module _ (n : ℕ) (p : Network) (u : ℕ) (l : Local) (ch : ℕ → ℕ → List Message) (fits : Fits n p) where
   commit-fits : Ranged n u (l .clock) (l .neighbors) (l .forming) (l .row) → Node n u
@@ -98,41 +87,30 @@ module _ (n : ℕ) (p : Network) (u : ℕ) (l : Local) (ch : ℕ → ℕ → Lis
     diagonal = λ a. diagonal a (equal? a u);
   }
     where
+      q : Network
+      q = commit p u l ch
+
       news : Message
       news = record { height = l .row u; timestamp = l .clock }
 
-      row′ : ℕ → List Message
-      row′ b = post (l .sent b) news (ch u b)
+      nodes : (a : ℕ) → SameOrNot a u → Ranged n a (q .clock a) (q .neighbors a) (q .forming a) (q .height a)
+      nodes a (inl e) = simp (e, update-at) mine
+      nodes a (inr d) = simp update-off (fits .nodes a)
 
-      nodes : (a : ℕ) → (a ≡ u) ⊎ (a ≡ u → ⊥) → Ranged n a (commit p u l ch .clock a) (commit p u l ch .neighbors a) (commit p u l ch .forming a) (commit p u l ch .height a)
-      nodes a (inl e) = rw (e, update-at (p .clock) u (l .clock), update-at (p .neighbors) u (l .neighbors), update-at (p .forming) u (l .forming), update-at (p .height) u (l .row)) mine
-      nodes a (inr d) = rw (update-off (p .clock) u (l .clock) a d, update-off (p .neighbors) u (l .neighbors) a d, update-off (p .forming) u (l .forming) a d, update-off (p .height) u (l .row) a d) (fits .nodes a)
+      messages : (a b : ℕ) → SameOrNot a u → AllFit n a (q .channel a b)
+      messages a b (inl e) = simp (e, row-at) (fit-post n u (l .sent b) news (ch u b) (mine .own st) (fit u b))
+      messages a b (inr d) = simp row-off (fit a b)
 
-      messages : (a b : ℕ) → (a ≡ u) ⊎ (a ≡ u → ⊥) → AllFit n a (update ch u row′ a b)
-      messages a b (inl e) = rw (e, update-at ch u row′) (fit-post n u (l .sent b) news (ch u b) (mine .own st) (fit u b))
-      messages a b (inr d) = rw (update-off ch u row′ a d) (fit a b)
+      lengths : (a b : ℕ) → SameOrNot a u → Choice (l .sent b) → length (q .channel a b) ≤ 8
+      lengths a b (inl e) (yes! s) = simp (e, row-at, s) (omega (arith, space b s, length-post true news (ch u b)))
+      lengths a b (inl e) (no! s) = simp (e, row-at, s) (short u b)
+      lengths a b (inr d) s = simp row-off (short a b)
 
-      lengths : (a b : ℕ) → (a ≡ u) ⊎ (a ≡ u → ⊥) → Choice (l .sent b) → length (update ch u row′ a b) ≤ 8
-      lengths a b (inl e) (yes! s) = rw (e, update-at ch u row′, s) (omega (arith, space b s, length-post true news (ch u b)))
-      lengths a b (inl e) (no! s) = rw (e, update-at ch u row′, s) (short u b)
-      lengths a b (inr d) s = rw (update-off ch u row′ a d) (short a b)
+      diagonal : (a : ℕ) → SameOrNot a u → q .channel a a ≡ []
+      diagonal a (inl e) = simp (e, row-at, self) (diag u)
+      diagonal a (inr d) = simp row-off (diag a)
 
-      diagonal : (a : ℕ) → (a ≡ u) ⊎ (a ≡ u → ⊥) → update ch u row′ a a ≡ []
-      diagonal a (inl e) = rw (e, update-at ch u row′, self) (diag u)
-      diagonal a (inr d) = rw (update-off ch u row′ a d) (diag a)
-
--- ---- the events
-
-sends-self : (v : ℕ) (r : Rule) (u : ℕ) → (u ≡ v → ⊥) → sends v r u false ≡ false
-sends-self v ChannelUp u d = ne-eqb u v d
-sends-self v ElectSelf u d = refl
-sends-self v StartNewRefLevel u d = refl
-sends-self v NoChange u d = refl
-sends-self v Ignored u d = refl
-sends-self v ReflectRefLevel u d = refl
-sends-self v Reply u d = ne-eqb u v d
-sends-self v (PropagateLargestRefLevel l) u d = refl
-sends-self v (AdoptLpIfPriority w) u d = refl
+-- ---- whom a rule sends to
 
 pub sends-in : (v : ℕ) (r : Rule) (b : ℕ) (x : Bool) → sends v r b x ≡ true → (x ≡ true) ⊎ (b ≡ v)
 sends-in v ChannelUp b x e = inr (eqb-true b v e)
@@ -145,98 +123,142 @@ sends-in v Reply b x e = inr (eqb-true b v e)
 sends-in v (PropagateLargestRefLevel l) b x e = inl e
 sends-in v (AdoptLpIfPriority w) b x e = inl e
 
+sends-self : (v : ℕ) (r : Rule) (u : ℕ) → (u ≡ v → ⊥) → sends v r u false ≡ false
+sends-self v r u d = not-true-is-false (sends v r u false) (λ e. go (sends-in v r u false e))
+  where
+    go : (false ≡ true) ⊎ (u ≡ v) → ⊥
+    go (inl e) = clash e refl
+    go (inr e) = d e
+
 pub either : (a b : Bool) {X : Type 0} → (a || b) ≡ true → (a ≡ true → X) → (b ≡ true → X) → X
 either true b e f g = f refl
 either false b e f g = g e
 
--- a rule carried out: what is left to show
-carried-fits : (n : ℕ) (p : Network) (inv : Inv n p) (fits : Fits n p) (N F : ℕ → Bool) (row : ℕ → Height) (u v t : ℕ) (r : Rule) (ch : ℕ → ℕ → List Message)
-    → Node n u → Node n v → (u ≡ v → ⊥) → t ≤ lastTime → HeightFits n u (heightAfter n N row u v t r)
-    → ((w : ℕ) → N w ≡ true → HeightFits n w (row w)) → ((w : ℕ) → (w ≡ u → ⊥) → N w ≡ false → row w ≡ zeroHeight) → ((w : ℕ) → N w ≡ true → Node n w) → ((w : ℕ) → F w ≡ true → Node n w) → N u ≡ false → F u ≡ false
-    → ((a b : ℕ) → AllFit n a (ch a b)) → ((a b : ℕ) → length (ch a b) ≤ 8) → ((a : ℕ) → ch a a ≡ [])
-    → every n (hasRoom (carried n N F row u v t r) (ch u)) ≡ true
-    → Fits n (commit p u (carried n N F row u v t r) ch)
-unfolding carried hasRoom
-carried-fits n p inv fits N F row u v t r ch su sv d intime h views blank inN inF selfN selfF fit short diag spacious =
-    commit-fits n p u (carried n N F row u v t r) ch fits (ranged n N F row u t (heightAfter n N row u v t r) su intime h views blank inN inF selfN) su fit short space diag (rw (selfN, selfF) (sends-self v r u d))
-  where
-    target : (b : ℕ) → (N b || F b) ≡ true ⊎ (b ≡ v) → Node n b
-    target b (inl e) = either (N b) (F b) e (inN b) (inF b)
-    target b (inr e) = rw e sv
+-- ---- the events
 
-    space : (b : ℕ) → sends v r b (N b || F b) ≡ true → length (ch u b) < 8
-    space b e =
-        let s = target b (sends-in v r b (N b || F b) e) in
-        ltb-true (length (ch u b)) 8 (rw e at (every-at n (hasRoom (carried n N F row u v t r) (ch u)) spacious b (s .low) (s .high)))
-
-cleared-fit : (n u : ℕ) (old new : List Message) → Cleared old new → AllFit n u old → AllFit n u new
-cleared-fit n u old new (isWhole e) h = rw e h
-cleared-fit n u old new (isTail e) h = rw e (fit-tail n u old h)
-cleared-fit n u old new (isGone e) h = rw e fnil
+-- l at u is within the ranges if the tests for clock, depth and room pass
+abbrev FitsIf : ℕ → Network → ℕ → Local → (ℕ → ℕ → List Message) → Type 0
+FitsIf n p u l ch =
+    l .clock ≤ lastTime → tooDeep (l .rule) (l .row u .delta) ≡ false → every n (hasRoom l (ch u)) ≡ true → Fits n (commit p u l ch)
 
 module _ (n : ℕ) (p : Network) (inv : Inv n p) (fits : Fits n p) (u v : ℕ) (su : Node n u) (sv : Node n v) (other : u ≡ v → ⊥) where
-  fit : (e : Event) (a b : ℕ) → AllFit n a (cleared p e a b)
-  fit e a b = cleared-fit n a (p .channel a b) (cleared p e a b) (cleared-is p e a b) (fits .messages a b)
-
-  short : (e : Event) (a b : ℕ) → length (cleared p e a b) ≤ 8
-  short e a b = cleared-short (p .channel a b) (cleared p e a b) 8 (cleared-is p e a b) (fits .lengths a b)
-
-  diag : (e : Event) (a : ℕ) → cleared p e a a ≡ []
-  diag e a = cleared-nil (p .channel a a) (cleared p e a a) (cleared-is p e a a) (fits .diagonal a)
-
   old : Ranged n u (p .clock u) (p .neighbors u) (p .forming u) (p .height u)
   old = fits .nodes u
 
-  up-fits : Accepted n p (up u v) → Fits n (commit p u (localUp n p u v) (p .channel))
-  unfolding localUp carried
-  up-fits ok = carried-fits n p inv fits (p .neighbors u) (update (p .forming u) v true) (p .height u) u v (suc (p .clock u)) ChannelUp (p .channel) su sv other (ok .intime) (old .own su)
-      (old .views) (old .blank) (old .inN) (update-all (λ a x. x ≡ true → Node n a) (p .forming u) v true (λ i. sv) (λ a d. old .inF a)) (inv .nodes u .selfN) (rw (update-off (p .forming u) v true u other) (inv .nodes u .selfF))
-      (fits .messages) (fits .lengths) (fits .diagonal) (ok .spacious)
+  module _ (N F : ℕ → Bool) (row : ℕ → Height) (same : SameBut p u v N F row)
+      (view : N v ≡ true → HeightFits n v (row v)) (blank : N v ≡ false → row v ≡ zeroHeight) where
+    views : (w : ℕ) → N w ≡ true → HeightFits n w (row w)
+    views w i = go (equal? w v)
+      where
+        go : SameOrNot w v → HeightFits n w (row w)
+        go (inl e) = rw e (view (rw e at i))
+        go (inr d) = rw (same .sameH w d) (old .views w (rw (same .sameN w d) at i))
 
-  ignored-fits : (m : Message) → suc (p .clock u) ≤ lastTime → every n (hasRoom (localIgnored n p u v (m .timestamp)) (cleared p (receive v u) u)) ≡ true → Fits n (commit p u (localIgnored n p u v (m .timestamp)) (cleared p (receive v u)))
-  unfolding localIgnored carried
-  ignored-fits m intime spacious = carried-fits n p inv fits (p .neighbors u) (p .forming u) (p .height u) u v (suc (p .clock u)) Ignored (cleared p (receive v u)) su sv other intime (old .own su)
-      (old .views) (old .blank) (old .inN) (old .inF) (inv .nodes u .selfN) (inv .nodes u .selfF)
-      (fit (receive v u)) (short (receive v u)) (diag (receive v u)) spacious
+    blanks : (w : ℕ) → (w ≡ u → ⊥) → N w ≡ false → row w ≡ zeroHeight
+    blanks w d i = go (equal? w v)
+      where
+        go : SameOrNot w v → row w ≡ zeroHeight
+        go (inl e) = rw e (blank (rw e at i))
+        go (inr f) = same .sameH w f ∙ old .blank w d (rw (same .sameN w f) at i)
 
-  down-fits : Accepted n p (down u v) → Fits n (commit p u (localDown n p u v) (cleared p (down u v)))
-  unfolding localDown carried
-  down-fits ok = carried-fits n p inv fits N F row u v (suc (p .clock u)) (downRule n N row u) (cleared p (down u v)) su sv other (ok .intime)
-      (fits-down n N row u v (p .clock u) su (rw (update-off (p .height u) v zeroHeight u other) (old .own su)) (ok .intime))
-      (λ w i. views w i (equal? w v)) (λ w d i. blank w d i (equal? w v))
-      (update-all (λ a x. x ≡ true → Node n a) (p .neighbors u) v false (λ i. sv) (λ a d. old .inN a))
-      (update-all (λ a x. x ≡ true → Node n a) (p .forming u) v false (λ i. sv) (λ a d. old .inF a))
-      (rw (update-off (p .neighbors u) v false u other) (inv .nodes u .selfN)) (rw (update-off (p .forming u) v false u other) (inv .nodes u .selfF))
-      (fit (down u v)) (short (down u v)) (diag (down u v)) (ok .spacious)
+    inN : (w : ℕ) → N w ≡ true → Node n w
+    inN w i = go (equal? w v)
+      where
+        go : SameOrNot w v → Node n w
+        go (inl e) = rw e sv
+        go (inr d) = old .inN w (rw (same .sameN w d) at i)
+
+    inF : (w : ℕ) → F w ≡ true → Node n w
+    inF w i = go (equal? w v)
+      where
+        go : SameOrNot w v → Node n w
+        go (inl e) = rw e sv
+        go (inr d) = old .inF w (rw (same .sameF w d) at i)
+
+    -- what is left to show of a rule: the height that it leaves
+    carried-fits : (e : Event) (t : ℕ) (r : Rule)
+        → (t ≤ lastTime → tooDeep r (heightAfter n N row u v t r .delta) ≡ false → HeightFits n u (heightAfter n N row u v t r))
+        → FitsIf n p u (carried n N F row u v t r) (cleared p e)
+    unfolding carried hasRoom
+    carried-fits e t r height intime shallow spacious =
+        commit-fits n p u l ch fits ranged su
+        (λ a b. cleared-fit n a (p .channel a b) (ch a b) (cleared-is p e a b) (fits .messages a b))
+        (λ a b. cleared-short (p .channel a b) (ch a b) 8 (cleared-is p e a b) (fits .lengths a b)) space
+        (λ a. cleared-nil (p .channel a a) (ch a a) (cleared-is p e a a) (fits .diagonal a))
+        (rw (selfN, selfF) (sends-self v r u other))
+      where
+        l : Local
+        l = carried n N F row u v t r
+
+        ch : ℕ → ℕ → List Message
+        ch = cleared p e
+
+        h : Height
+        h = heightAfter n N row u v t r
+
+        selfN : N u ≡ false
+        selfN = same .sameN u other ∙ inv .nodes u .selfN
+
+        selfF : F u ≡ false
+        selfF = same .sameF u other ∙ inv .nodes u .selfF
+
+        ranged : Ranged n u t N F (update row u h)
+        ranged = record {
+          clock-le = intime;
+          own = λ _. rw (update-at row u h) (height intime (rw (update-at row u h) at shallow));
+          views = update-all (λ a x. N a ≡ true → HeightFits n a x) row u h (λ i. clash i selfN) (λ a d i. views a i);
+          blank = update-all (λ a x. (a ≡ u → ⊥) → N a ≡ false → x ≡ zeroHeight) row u h (λ d i. absurd (d refl)) (λ a d e i. blanks a d i);
+          inN = inN;
+          inF = inF;
+          outside = λ d. absurd (d su);
+        }
+
+        target : (b : ℕ) → (N b || F b) ≡ true ⊎ (b ≡ v) → Node n b
+        target b (inl i) = either (N b) (F b) i (inN b) (inF b)
+        target b (inr i) = rw i sv
+
+        space : (b : ℕ) → l .sent b ≡ true → length (ch u b) < 8
+        space b i =
+            let s = target b (sends-in v r b (N b || F b) i) in
+            ltb-true (length (ch u b)) 8 (rw i at (every-at n (hasRoom l (ch u)) spacious b (s .low) (s .high)))
+
+  back : v ≡ u → ⊥
+  back q = other (sym q)
+
+  up-fits : FitsIf n p u (localUp n p u v) (p .channel)
+  unfolding localUp
+  up-fits =
+      carried-fits (p .neighbors u) (update (p .forming u) v true) (p .height u) (same-forming p u v) (old .views v) (old .blank v back)
+      (up u v) (suc (p .clock u)) ChannelUp (λ a b. old .own su)
+
+  ignored-fits : (m : Message) → FitsIf n p u (localIgnored n p u v (m .timestamp)) (cleared p (receive v u))
+  unfolding localIgnored
+  ignored-fits m =
+      carried-fits (p .neighbors u) (p .forming u) (p .height u) (same-all p u v) (old .views v) (old .blank v back)
+      (receive v u) (suc (p .clock u)) Ignored (λ a b. old .own su)
+
+  down-fits : FitsIf n p u (localDown n p u v) (cleared p (down u v))
+  unfolding localDown
+  down-fits =
+      carried-fits N (update (p .forming u) v false) row (same-updated p u v false zeroHeight)
+      (λ i. clash i (update-at (p .neighbors u) v false)) (λ i. update-at (p .height u) v zeroHeight)
+      (down u v) (suc (p .clock u)) (downRule n N row u) (λ intime b. fits-down n N row u v (p .clock u) su own intime)
     where
       N : ℕ → Bool
       N = update (p .neighbors u) v false
 
-      F : ℕ → Bool
-      F = update (p .forming u) v false
-
       row : ℕ → Height
       row = update (p .height u) v zeroHeight
 
-      views : (w : ℕ) → N w ≡ true → (w ≡ v) ⊎ (w ≡ v → ⊥) → HeightFits n w (row w)
-      views w i (inl e) = clash (rw e at i) (update-at (p .neighbors u) v false)
-      views w i (inr d) = rw (update-off (p .height u) v zeroHeight w d) (old .views w (rw (update-off (p .neighbors u) v false w d) at i))
+      own : HeightFits n u (row u)
+      own = rw (update-off (p .height u) v zeroHeight u other) (old .own su)
 
-      blank : (w : ℕ) → (w ≡ u → ⊥) → N w ≡ false → (w ≡ v) ⊎ (w ≡ v → ⊥) → row w ≡ zeroHeight
-      blank w d i (inl e) = rw (e, update-at (p .height u) v zeroHeight)
-      blank w d i (inr f) = rw (update-off (p .height u) v zeroHeight w f) (old .blank w d (rw (update-off (p .neighbors u) v false w f) at i))
-
-  taken-fits : (m : Message) → HeightFits n v (m .height) → localTaken n p u v m .clock ≤ lastTime → tooDeep (localTaken n p u v m .rule) (localTaken n p u v m .row u .delta) ≡ false
-      → every n (hasRoom (localTaken n p u v m) (cleared p (receive v u) u)) ≡ true → Fits n (commit p u (localTaken n p u v m) (cleared p (receive v u)))
-  unfolding localTaken carried
-  taken-fits m hm intime shallow spacious = carried-fits n p inv fits N F row u v (suc c) r (cleared p (receive v u)) su sv other intime
-      (fits-receipt n N row u v c su (rw (update-off (p .height u) v (m .height) u other) (old .own su)) intime (update-at (p .neighbors u) v true) (λ w i. views w i (equal? w v)) r (verdict n N row u v)
-      (rw (update-at row u (heightAfter n N row u v (suc c) r)) at shallow))
-      (λ w i. views w i (equal? w v)) (λ w d i. blank w d i (equal? w v))
-      (update-all (λ a x. x ≡ true → Node n a) (p .neighbors u) v true (λ i. sv) (λ a d. old .inN a))
-      (update-all (λ a x. x ≡ true → Node n a) (p .forming u) v false (λ i. sv) (λ a d. old .inF a))
-      (rw (update-off (p .neighbors u) v true u other) (inv .nodes u .selfN)) (rw (update-off (p .forming u) v false u other) (inv .nodes u .selfF))
-      (fit (receive v u)) (short (receive v u)) (diag (receive v u)) spacious
+  taken-fits : (m : Message) → HeightFits n v (m .height) → FitsIf n p u (localTaken n p u v m) (cleared p (receive v u))
+  unfolding localTaken
+  taken-fits m hm =
+      carried-fits N F row same view blank (receive v u) (suc c) (receiptRule n N row u v)
+      (λ intime shallow.
+      fits-receipt n N row u v c su own intime isup (views N F row same view blank) (receiptRule n N row u v) (verdict n N row u v) shallow)
     where
       c : ℕ
       c = max (p .clock u) (m .timestamp)
@@ -250,46 +272,48 @@ module _ (n : ℕ) (p : Network) (inv : Inv n p) (fits : Fits n p) (u v : ℕ) (
       row : ℕ → Height
       row = update (p .height u) v (m .height)
 
-      r : Rule
-      r = receiptRule n N row u v
+      same : SameBut p u v N F row
+      same = same-updated p u v true (m .height)
 
-      views : (w : ℕ) → N w ≡ true → (w ≡ v) ⊎ (w ≡ v → ⊥) → HeightFits n w (row w)
-      views w i (inl e) = rw (e, update-at (p .height u) v (m .height)) hm
-      views w i (inr d) = rw (update-off (p .height u) v (m .height) w d) (old .views w (rw (update-off (p .neighbors u) v true w d) at i))
+      isup : N v ≡ true
+      isup = update-at (p .neighbors u) v true
 
-      blank : (w : ℕ) → (w ≡ u → ⊥) → N w ≡ false → (w ≡ v) ⊎ (w ≡ v → ⊥) → row w ≡ zeroHeight
-      blank w d i (inl e) = clash (update-at (p .neighbors u) v true) (rw e at i)
-      blank w d i (inr f) = rw (update-off (p .height u) v (m .height) w f) (old .blank w d (rw (update-off (p .neighbors u) v true w f) at i))
+      view : N v ≡ true → HeightFits n v (row v)
+      view i = rw (update-at (p .height u) v (m .height)) hm
 
-  receipt-fits : Accepted n p (receive v u) → Fits n (commit p u (localReceipt n p u v (p .channel v u)) (cleared p (receive v u)))
-  unfolding localIgnored carried
-  receipt-fits ok = go (p .channel v u) refl
+      blank : N v ≡ false → row v ≡ zeroHeight
+      blank i = clash isup i
+
+      own : HeightFits n u (row u)
+      own = rw (update-off (p .height u) v (m .height) u other) (old .own su)
+
+  receipt-fits : isEmpty (p .channel v u) ≡ false → FitsIf n p u (localReceipt n p u v (p .channel v u)) (cleared p (receive v u))
+  receipt-fits some! = go (p .channel v u) refl
     where
       G : Local → Type 0
-      G l = l .clock ≤ lastTime → tooDeep (l .rule) (l .row u .delta) ≡ false → every n (hasRoom l (cleared p (receive v u) u)) ≡ true → Fits n (commit p u l (cleared p (receive v u)))
+      G l = FitsIf n p u l (cleared p (receive v u))
 
-      unignored : (m : Message) → localIgnored n p u v (m .timestamp) .clock ≤ lastTime → suc (p .clock u) ≤ lastTime
-      unignored m a = a
-
-      go : (q : List Message) → p .channel v u ≡ q → Fits n (commit p u (localReceipt n p u v (p .channel v u)) (cleared p (receive v u)))
-      go [] e = clash (rw e) (ok .fits)
+      go : (q : List Message) → p .channel v u ≡ q → G (localReceipt n p u v (p .channel v u))
+      go [] e = clash (rw e) some!
       go (m ∷ ms) e =
-          let is : localReceipt n p u v (p .channel v u) ≡ cond (upTo p u v) (localTaken n p u v m) (localIgnored n p u v (m .timestamp)) = ap (localReceipt n p u v) e in
-          let all : G (cond (upTo p u v) (localTaken n p u v m) (localIgnored n p u v (m .timestamp))) =
-          byCases G (upTo p u v) (localTaken n p u v m) (localIgnored n p u v (m .timestamp)) (λ i a b c. taken-fits m (fit-head n v m ms (rw e at (fits .messages v u))) a b c) (λ i a b c. ignored-fits m (unignored m a) c) in
-          subst G (sym is) all (ok .intime) (ok .shallow) (ok .spacious)
+          subst G (sym (ap (localReceipt n p u v) e))
+          (byCases G (upTo p u v) (localTaken n p u v m) (localIgnored n p u v (m .timestamp))
+          (λ i. taken-fits m (fit-head n v m ms (rw e at (fits .messages v u)))) (λ i. ignored-fits m))
 
 pub step-fits : (n : ℕ) (p : Network) (e : Event) → Inv n p → Fits n p → Accepted n p e → Fits n (step n p e)
 unfolding step
-step-fits n p (up u v) inv fits ok = up-fits n p inv fits u v (record { low = ok .lowU; high = ok .highU }) (record { low = ok .lowV; high = ok .highV }) (ok .differ) ok
-step-fits n p (down u v) inv fits ok = down-fits n p inv fits u v (record { low = ok .lowU; high = ok .highU }) (record { low = ok .lowV; high = ok .highV }) (ok .differ) ok
-step-fits n p (receive v u) inv fits ok = receipt-fits n p inv fits u v (record { low = ok .lowU; high = ok .highU }) (record { low = ok .lowV; high = ok .highV }) (ok .differ) ok
+step-fits n p e inv fits ok = go e ok (home-node n p e ok) (peer-node n p e ok) (ok .intime) (ok .shallow) (ok .spacious)
+  where
+    go : (e : Event) → Accepted n p e → Node n (home e) → Node n (peer e) → FitsIf n p (home e) (local n p e) (cleared p e)
+    go (up u v) ok su sv = up-fits n p inv fits u v su sv (ok .differ)
+    go (down u v) ok su sv = down-fits n p inv fits u v su sv (ok .differ)
+    go (receive v u) ok su sv = receipt-fits n p inv fits u v su sv (ok .differ) (ok .fits)
 
 pub fresh-fits : (n : ℕ) → Fits n fresh
 fresh-fits n = record {
   nodes = λ u. record {
     clock-le = omega arith;
-    own = λ st. rw (eq-eqb u u refl) (record { level = zero-level n; delta = zero-delta; pair = record { election = 0; nlts-is = refl; election-le = omega arith; lid-low = st .low; lid-high = st .high }; id = refl });
+    own = λ st. rw (eq-eqb u u refl) (own u st);
     views = λ v i. clash i refl;
     blank = λ v d i. rw (ne-eqb u v (λ q. d (sym q)));
     inN = λ v i. clash i refl;
@@ -300,3 +324,11 @@ fresh-fits n = record {
   lengths = λ u v. omega arith;
   diagonal = λ u. refl;
 }
+  where
+    own : (u : ℕ) → Node n u → HeightFits n u (freshHeight u)
+    own u st = record {
+      level = zero-level n;
+      delta = zero-delta;
+      pair = record { election = 0; nlts-is = refl; election-le = omega arith; lid-low = st .low; lid-high = st .high };
+      id = refl;
+    }

@@ -1,13 +1,18 @@
--- Tests over 1 to n, and functions changed in one place.
-use Prim.Native.Nat.{ℕ, zero, suc, _<_, _≤_}
+-- Tests that answer true or false, tests over 1 to n, and functions changed in one place.
+-- Assumes nothing.
+use Prim.Native.Nat.{ℕ, zero, suc, _≤_}
 use native.Mathlib.Omega.{arith}
-use mathlib.Core.Bool.{Bool, true, false, not, cond, _&&_, _||_}
-use mathlib.Core.Path.{_≡_, refl, sym, ap, subst, _∙_, fun-ext}
+use mathlib.Core.Bool.{Bool, true, false, _&&_}
 use mathlib.Core.Logic.{_⊎_, inl, inr}
-use lib.Dec.{ltb, eqb, leb}
-use borrow.Author.Tests.{eqb-true, eqb-false, eq-eqb, ne-eqb}
+use mathlib.Core.Path.{_≡_, refl, fun-ext}
+use lib.Dec.{eqb, leb}
+use borrow.Author.Tests.{eqb-true, eqb-false, eq-eqb, ne-eqb, leb-true}
+use Rattle.height.proofs.OrderLaws.{clash, not-true-is-false}
+use Rattle.protocol.specs.Component.{Node}
 use Rattle.protocol.specs.Functions.{every, update}
-use Rattle.height.proofs.OrderLaws.{clash, not-true-is-false, true-or-false}
+use Rattle.protocol.specs.Network.{isNode}
+
+-- ---- a test, and its two answers
 
 pub data Choice (b : Bool) : Type 0 where
   yes! : b ≡ true → Choice b
@@ -17,10 +22,13 @@ pub choice : (b : Bool) → Choice b
 choice true = yes! refl
 choice false = no! refl
 
-pub equal? : (a b : ℕ) → (a ≡ b) ⊎ (a ≡ b → ⊥)
+abbrev pub SameOrNot : ℕ → ℕ → Type 0
+SameOrNot a b = (a ≡ b) ⊎ (a ≡ b → ⊥)
+
+pub equal? : (a b : ℕ) → SameOrNot a b
 equal? a b = go (choice (eqb a b))
   where
-    go : Choice (eqb a b) → (a ≡ b) ⊎ (a ≡ b → ⊥)
+    go : Choice (eqb a b) → SameOrNot a b
     go (yes! e) = inl (eqb-true a b e)
     go (no! e) = inr (eqb-false a b e)
 
@@ -35,12 +43,26 @@ and-right false b h = clash h refl
 pub and-both : {a b : Bool} → a ≡ true → b ≡ true → (a && b) ≡ true
 and-both p q = rw (p, q)
 
+pub both-equal : (a u b v : ℕ) → (eqb a u && eqb b v) ≡ true → (a ≡ u) × (b ≡ v)
+both-equal a u b v e = (eqb-true a u (and-left (eqb a u) (eqb b v) e), eqb-true b v (and-right (eqb a u) (eqb b v) e))
+
+pub not-both : (a u b v : ℕ) → (a ≡ u → b ≡ v → ⊥) → (eqb a u && eqb b v) ≡ false
+not-both a u b v h = not-true-is-false (eqb a u && eqb b v) (λ e. let q = both-equal a u b v e in h (q .0) (q .1))
+
+pub is-node : (n u : ℕ) → isNode n u ≡ true → Node n u
+is-node n u e = record {
+  low = leb-true 1 u (and-left (leb 1 u) (leb u n) e);
+  high = leb-true u n (and-right (leb 1 u) (leb u n) e);
+}
+
+-- ---- tests over 1 to n
+
 pub every-at : (n : ℕ) (p : ℕ → Bool) → every n p ≡ true → (v : ℕ) → 1 ≤ v → v ≤ n → p v ≡ true
 unfolding every
 every-at zero p h v l k = absurd (omega arith)
 every-at (suc n) p h v l k = go (every-at n p (and-right (p (suc n)) (every n p) h) v l) (equal? v (suc n))
   where
-    go : (v ≤ n → p v ≡ true) → (v ≡ suc n) ⊎ (v ≡ suc n → ⊥) → p v ≡ true
+    go : (v ≤ n → p v ≡ true) → SameOrNot v (suc n) → p v ≡ true
     go ih (inl e) = rw e (and-left (p (suc n)) (every n p) h)
     go ih (inr d) = ih (omega arith)
 
@@ -52,6 +74,7 @@ every-all (suc n) p h = and-both (h (suc n) (omega arith) (omega arith)) (every-
 pub every-false : (n : ℕ) (p : ℕ → Bool) (v : ℕ) → 1 ≤ v → v ≤ n → p v ≡ false → every n p ≡ false
 every-false n p v l k h = not-true-is-false (every n p) (λ e. clash (every-at n p e v l k) h)
 
+-- a number where the test fails
 pub record Found (n : ℕ) (p : ℕ → Bool) : Type 0 where
   pub at : ℕ
   pub low : 1 ≤ at
@@ -69,6 +92,8 @@ every-not (suc n) p h = go (λ (e : every n p ≡ false). every-not n p e) (choi
         let f : Found n p = ih (rw e at h) in
         record { at = f .at; low = f .low; high = omega arith; fails = f .fails }
 
+-- ---- functions changed in one place
+
 pub update-at : {A : Type 0} (f : ℕ → A) (u : ℕ) (x : A) → update f u x u ≡ x
 unfolding update
 update-at f u x = rw (eq-eqb u u refl)
@@ -77,11 +102,32 @@ pub update-off : {A : Type 0} (f : ℕ → A) (u : ℕ) (x : A) (a : ℕ) → (a
 unfolding update
 update-off f u x a h = rw (ne-eqb a u h)
 
--- what holds of x at u, and of f elsewhere, holds of `set f u x`
-pub update-all : {A : Type 0} (P : ℕ → A → Type 0) (f : ℕ → A) (u : ℕ) (x : A) → P u x → ((a : ℕ) → (a ≡ u → ⊥) → P a (f a)) → (a : ℕ) → P a (update f u x a)
+-- the same where f is a function of two numbers, changed in one row, or at one place
+pub row-at : {A : Type 0} (f : ℕ → ℕ → A) (u : ℕ) (x : ℕ → A) (b : ℕ) → update f u x u b ≡ x b
+row-at f u x b = rw (update-at f u x)
+
+pub row-off : {A : Type 0} (f : ℕ → ℕ → A) (u : ℕ) (x : ℕ → A) (a b : ℕ) → (a ≡ u → ⊥) → update f u x a b ≡ f a b
+row-off f u x a b h = rw (update-off f u x a h)
+
+pub cell-at : {A : Type 0} (f : ℕ → ℕ → A) (u v : ℕ) (x : A) (a b : ℕ) → (eqb a u && eqb b v) ≡ true
+    → update f u (update (f u) v x) a b ≡ x
+cell-at f u v x a b e = let q = both-equal a u b v e in simp (q .0, q .1, row-at, update-at)
+
+pub cell-off : {A : Type 0} (f : ℕ → ℕ → A) (u v : ℕ) (x : A) (a b : ℕ) → (eqb a u && eqb b v) ≡ false
+    → update f u (update (f u) v x) a b ≡ f a b
+cell-off f u v x a b e = go (equal? a u) (equal? b v)
+  where
+    go : SameOrNot a u → SameOrNot b v → update f u (update (f u) v x) a b ≡ f a b
+    go (inl d) (inl g) = clash (rw (eq-eqb a u d, eq-eqb b v g)) e
+    go (inl d) (inr g) = simp (d, row-at, update-off)
+    go (inr d) g = simp row-off
+
+-- what holds of x at u, and of f elsewhere, holds of `update f u x`
+pub update-all : {A : Type 0} (P : ℕ → A → Type 0) (f : ℕ → A) (u : ℕ) (x : A)
+    → P u x → ((a : ℕ) → (a ≡ u → ⊥) → P a (f a)) → (a : ℕ) → P a (update f u x a)
 update-all P f u x h k a = go (equal? a u)
   where
-    go : (a ≡ u) ⊎ (a ≡ u → ⊥) → P a (update f u x a)
+    go : SameOrNot a u → P a (update f u x a)
     go (inl e) = rw (e, update-at f u x) h
     go (inr d) = rw (update-off f u x a d) (k a d)
 

@@ -15,17 +15,11 @@ use Rattle.height.proofs.WordsLaws.{same-words, load-stored, stored-before, sto
 use Rattle.protocol.specs.Network.{Message}
 use Rattle.protocol.proofs.TestsLaws.{equal?}
 use Rattle.tables.specs.Cell.{count, place, messageAt, messagesAt, queue, appended, taken, emptied, messageWords, placeWords, cellWords}
+use Rattle.tables.specs.Fit.{CellFits}
 use Rattle.tables.specs.Rows.{part}
 use Rattle.tables.specs.Tables.{cellWidth}
 use Rattle.tables.proofs.WordRuns.{run, part-run, part-add, run-zero}
 use Rattle.tables.proofs.Wordy.{Wordy, word-lt}
-
--- a cell that its messages give back
-pub record CellFits (cell : List ℕ) : Type 0 where
-  pub wide : length cell ≡ 65
-  pub few : count cell ≤ 8
-  pub deltas : (k : ℕ) → k < 8 → getD cell (1 + (k * 8 + 3)) 0 < 4294967296
-  pub unused : (j : ℕ) → count cell * 8 ≤ j → j < 64 → getD cell (1 + j) 0 ≡ 0
 
 run-message : (ws : List ℕ) (i : ℕ) → getD ws (i + 3) 0 < 4294967296 → run 8 ws i ≡ messageWords (messageAt ws i)
 unfolding run messageWords heightWords messageAt heightAt

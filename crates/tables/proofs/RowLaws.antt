@@ -19,18 +19,12 @@ use Rattle.nodeset.proofs.Members.{setOf-member}
 use Rattle.protocol.specs.Component.{Node}
 use Rattle.protocol.specs.Functions.{update}
 use Rattle.protocol.proofs.TestsLaws.{equal?, update-at, update-off}
+use Rattle.tables.specs.Fit.{RowFits}
 use Rattle.tables.specs.Row.{clockIn, neighborsIn, formingIn, heightIn, putHeight, headed, rowWith, nodeWords}
 use Rattle.tables.specs.Rows.{rowAt, rows}
 use Rattle.tables.specs.Tables.{width}
 use Rattle.tables.proofs.WordRuns.{run, part-run, rows-are, run-words}
 use Rattle.tables.proofs.Wordy.{Wordy, word-lt}
-
--- a row that its numbers give back
-pub record RowFits (n : ℕ) (row : List ℕ) : Type 0 where
-  pub wide : length row ≡ width n
-  pub neighbors-lt : neighborsIn row < 2 ^ n
-  pub forming-lt : formingIn row < 2 ^ n
-  pub deltas : (k : ℕ) → k < n → getD row (3 + k * 7 + 3) 0 < 4294967296
 
 -- ---- the numbers give the words back
 

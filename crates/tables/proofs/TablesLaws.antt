@@ -13,19 +13,15 @@ use Rattle.nodeset.specs.NodeSet.{member}
 use Rattle.protocol.specs.Component.{Node}
 use Rattle.protocol.specs.Network.{Message, Network, isNode}
 use Rattle.tables.specs.Cell.{queue, cellWords}
+use Rattle.tables.specs.Fit.{TablesFit}
 use Rattle.tables.specs.Load.{load, tablesOf}
 use Rattle.tables.specs.Row.{clockIn, neighborsIn, formingIn, heightIn, nodeWords}
 use Rattle.tables.specs.Rows.{rowAt, rows}
 use Rattle.tables.specs.Tables.{Tables, tables, Sized, width, cellWidth, nodeOf, channelOf, pairOf}
-use Rattle.tables.proofs.CellLaws.{CellFits, cell-back}
-use Rattle.tables.proofs.RowLaws.{RowFits, row-back}
+use Rattle.tables.proofs.CellLaws.{cell-back}
+use Rattle.tables.proofs.RowLaws.{row-back}
 use Rattle.tables.proofs.RowsLaws.{row-length}
 use Rattle.tables.proofs.WordRuns.{rows-are, row-in}
-
-pub record TablesFit (n : ℕ) (t : Tables) : Type 0 where
-  pub size : Sized n t
-  pub rows : (u : ℕ) → Node n u → RowFits n (nodeOf n u (t .nodes))
-  pub cells : (u v : ℕ) → Node n u → Node n v → CellFits (channelOf n u v (t .channels))
 
 pub is-node : (n u : ℕ) → Node n u → isNode n u ≡ true
 is-node n u a = rw (le-leb 1 u (a .low), le-leb u n (a .high))

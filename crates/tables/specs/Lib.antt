@@ -4,3 +4,4 @@ pub mod Tables
 pub mod Row
 pub mod Cell
 pub mod Load
+pub mod Fit
