@@ -176,3 +176,26 @@ module _ (n : ℕ) (row : List ℕ) (fits : RowFits n row) (clock N F i j : ℕ)
         rw (headed-word (putHeight (putHeight row (suc j) view) (suc i) own) clock N F long (3 + k * 7 + 3) (omega arith))
         (put-deltas n i u-in (putHeight row (suc j) view) once-wide own wo (put-deltas n j v-in row (fits .wide) view wv (fits .deltas)) k l);
   }
+
+-- what the written row holds
+pub record RowAfter (n : ℕ) (row : List ℕ) (clock N F v : ℕ) (view : Height) (u : ℕ) (own : Height) : Type 0 where
+  pub clock-is : clockIn (rowWith row clock N F v view u own) ≡ clock
+  pub neighbors-is : neighborsIn (rowWith row clock N F v view u own) ≡ N
+  pub forming-is : formingIn (rowWith row clock N F v view u own) ≡ F
+  pub heights-are : heightIn (rowWith row clock N F v view u own) ≡ update (update (heightIn row) v view) u own
+  pub fits : RowFits n (rowWith row clock N F v view u own)
+
+pub row-after : (n : ℕ) (row : List ℕ) → RowFits n row → (clock N F v : ℕ) (view : Height) (u : ℕ) (own : Height)
+    → Node n u → Node n v → Wordy view → Wordy own → N < 2 ^ n → F < 2 ^ n → RowAfter n row clock N F v view u own
+row-after n row fits clock N F v view zero own a b wv wo hN hF = absurd (omega (arith, a .low))
+row-after n row fits clock N F zero view (suc i) own a b wv wo hN hF = absurd (omega (arith, b .low))
+row-after n row fits clock N F (suc j) view (suc i) own a b wv wo hN hF =
+    let hi : i < n = omega (arith, a .high) in
+    let hj : j < n = omega (arith, b .high) in
+    record {
+      clock-is = with-clock n row fits clock N F i j hi hj view own wv wo;
+      neighbors-is = with-neighbors n row fits clock N F i j hi hj view own wv wo;
+      forming-is = with-forming n row fits clock N F i j hi hj view own wv wo;
+      heights-are = with-heights n row fits clock N F i j hi hj view own wv wo;
+      fits = with-fits n row fits clock N F i j hi hj view own wv wo hN hF;
+    }

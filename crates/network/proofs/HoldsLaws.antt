@@ -1,0 +1,82 @@
+-- The rules of a height and of two sets as the code tests them: ranges that every word keeps are left out.
+-- Assumes nothing.
+use Prim.Native.Nat.{ℕ, zero, suc, _*_, _%_, _^_, _≤_, _<_}
+use native.Mathlib.Omega.{arith}
+use mathlib.Core.Bool.{Bool, true, false, not, _&&_, and-assoc}
+use mathlib.Core.Logic.{_⊎_, inl, inr}
+use mathlib.Core.Path.{_≡_, refl, _∙_}
+use lib.Dec.{eqb, ltb, leb, lit<}
+use lib.IntN.{ℤ, pos, negsuc, negℤ}
+use lib.Pow.{pow-mono, shl-exact}
+use lib.Signed.{leZ}
+use borrow.Author.Tests.{ltb-true, le-leb}
+use Rattle.height.specs.Clock.{lastTime}
+use Rattle.height.specs.Words.{Negated}
+use Rattle.height.specs.declared.Height.{Height}
+use Rattle.nodeset.specs.NodeSet.{member, within, apart}
+use Rattle.nodeset.proofs.Members.{none-above}
+use Rattle.protocol.specs.Functions.{every}
+use Rattle.protocol.specs.Holds.{levelHolds, deltaHolds, pairHolds, heightHolds, notInBoth, setsHold}
+use Rattle.protocol.proofs.TestsLaws.{and-left, and-right, equal?}
+
+-- ---- a height
+
+pub negated-range : (z : ℤ) → Negated z → (leZ (negℤ (pos lastTime)) z && leZ z (pos 0)) ≡ true
+unfolding Negated
+negated-range (pos n) h = le-leb n 0 h
+negated-range (negsuc n) h = rw (le-leb n 4294967294 h)
+
+module _ (n k : ℕ) (h : Height) (negated : Negated (h .pair .nlts .0)) where
+  pub height-test : (levelHolds n (h .level) && deltaHolds (h .delta) && leb 1 (h .pair .lid) && leb (h .pair .lid) n && eqb (h .id) k)
+      ≡ heightHolds n k h
+  unfolding heightHolds pairHolds
+  height-test =
+      rw (
+        negated-range (h .pair .nlts .0) negated,
+        and-assoc (levelHolds n (h .level) && deltaHolds (h .delta)) (leb 1 (h .pair .lid)) (leb (h .pair .lid) n),
+      )
+
+-- ---- two sets
+
+apart-every : (n : ℕ) (f g : ℕ → Bool) → apart n f g ≡ every n (notInBoth f g)
+unfolding apart every notInBoth
+apart-every zero f g = refl
+apart-every (suc n) f g = rw (apart-every n f g)
+
+-- nodes above n do not count where none of them passes
+apart-more : (n m : ℕ) (f g : ℕ → Bool) → n ≤ m → ((k : ℕ) → n < k → f k ≡ false) → apart m f g ≡ apart n f g
+unfolding apart
+apart-more n zero f g l h = let e : n ≡ 0 = omega arith in rw e
+apart-more n (suc m) f g l h = go (λ (q : n ≤ m). apart-more n m f g q h) (equal? n (suc m))
+  where
+    go : (n ≤ m → apart m f g ≡ apart n f g) → (n ≡ suc m) ⊎ (n ≡ suc m → ⊥) → apart (suc m) f g ≡ apart n f g
+    go ih (inl e) = rw e
+    go ih (inr d) = rw (h (suc m) (omega arith)) (ih (omega arith))
+
+-- the code's 1 << n
+end-is : (n : ℕ) → n ≤ 16 → (1 * 2 ^ n) % 2 ^ 32 ≡ 2 ^ n
+end-is n few = shl-exact 1 n 32 (lit< tt) (omega arith) ∙ omega arith
+
+module _ (n N F : ℕ) (few : n ≤ 16) where
+  pub sets-low : (ltb N ((1 * 2 ^ n) % 2 ^ 32) && ltb F ((1 * 2 ^ n) % 2 ^ 32)) ≡ true → (N < 65536) × (F < 65536)
+  sets-low e =
+      let q : (ltb N (2 ^ n) && ltb F (2 ^ n)) ≡ true = rw (end-is n few) at e in
+      let l : N < 2 ^ n = ltb-true N (2 ^ n) (and-left (ltb N (2 ^ n)) (ltb F (2 ^ n)) q) in
+      let h : F < 2 ^ n = ltb-true F (2 ^ n) (and-right (ltb N (2 ^ n)) (ltb F (2 ^ n)) q) in
+      let b = pow-mono {i = n} {j = 16} few in
+      (omega arith, omega arith)
+
+  module _ (u : ℕ) where
+    pub sets-inside : (ltb N ((1 * 2 ^ n) % 2 ^ 32) && ltb F ((1 * 2 ^ n) % 2 ^ 32)) ≡ true
+        → (apart 16 (member N) (member F) && not (member N u) && not (member F u))
+        ≡ (within n N && within n F && setsHold n u (member N) (member F))
+    unfolding within setsHold
+    sets-inside e =
+        let q : (ltb N (2 ^ n) && ltb F (2 ^ n)) ≡ true = rw (end-is n few) at e in
+        let l : N < 2 ^ n = ltb-true N (2 ^ n) (and-left (ltb N (2 ^ n)) (ltb F (2 ^ n)) q) in
+        rw (q, apart-more n 16 (member N) (member F) few (λ k m. none-above n N k l m), apart-every n (member N) (member F))
+
+    pub sets-outside : (ltb N ((1 * 2 ^ n) % 2 ^ 32) && ltb F ((1 * 2 ^ n) % 2 ^ 32)) ≡ false
+        → false ≡ (within n N && within n F && setsHold n u (member N) (member F))
+    unfolding within
+    sets-outside e = let q : (ltb N (2 ^ n) && ltb F (2 ^ n)) ≡ false = rw (end-is n few) at e in rw q

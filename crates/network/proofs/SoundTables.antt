@@ -1,0 +1,165 @@
+-- Tables of 32-bit words in which the check finds no fault fit: their network gives them back (`tables-back`).
+-- Assumes that every word is below 2 to the power 32 (`Words`), which a slice of u32 words shows of itself.
+use Prim.Native.Nat.{ℕ, zero, suc, _+_, _-_, _*_, _≤_, _<_}
+use native.Mathlib.Omega.{arith}
+use mathlib.Core.Bool.{Bool, true, false, _&&_, _||_}
+use mathlib.Core.List.{List, [], _∷_}
+use mathlib.Core.Logic.{_⊎_, inl, inr}
+use mathlib.Core.Path.{_≡_, refl, sym, ap, _∙_}
+use lib.Dec.{eqb, leb}
+use lib.ListN.{getD, length, drop}
+use lib.Seq.{getD-take, getD-drop}
+use borrow.Author.Tests.{leb-true, eqb-true, eq-eqb, ne-eqb}
+use Rattle.height.proofs.OrderLaws.{clash}
+use Rattle.nodeset.specs.NodeSet.{member, within}
+use Rattle.nodeset.proofs.Members.{within-true}
+use Rattle.protocol.specs.Component.{Node}
+use Rattle.protocol.specs.Functions.{all}
+use Rattle.protocol.specs.Holds.{heightHolds, messageHolds, setsHold}
+use Rattle.protocol.proofs.TestsLaws.{equal?, and-left, and-right}
+use Rattle.tables.specs.Fit.{CellFits, RowFits, TablesFit}
+use Rattle.tables.specs.Cell.{count, queue, allZero}
+use Rattle.tables.specs.Row.{neighborsIn, formingIn, heightIn}
+use Rattle.tables.specs.Rows.{rowAt}
+use Rattle.tables.specs.Tables.{Tables, Sized, width, cellWidth, nodeOf, pairOf, channelOf}
+use Rattle.tables.proofs.RowsLaws.{node-length, channel-length}
+use Rattle.network.specs.Check.{ownPlace, viewPlace, channelPlace, placeIn, place, checkOn}
+use Rattle.network.proofs.CheckLaws.{sound-sized, sound-place}
+
+-- every word is one of 32 bits
+pub record Words (t : Tables) : Type 0 where
+  pub nodes : (i : ℕ) → getD (t .nodes) i 0 < 4294967296
+  pub channels : (i : ℕ) → getD (t .channels) i 0 < 4294967296
+
+-- a word of a row is a word of the table
+row-word : (w i : ℕ) (xs : List ℕ) → ((j : ℕ) → getD xs j 0 < 4294967296) → (j : ℕ) → j < w → getD (rowAt w i xs) j 0 < 4294967296
+unfolding rowAt
+row-word w i xs h j l = rw (getD-take w (drop (i * w) xs) j 0 l, getD-drop (i * w) xs j 0) (h (i * w + j))
+
+pub zero-at : (ws : List ℕ) → allZero ws ≡ true → (j : ℕ) → getD ws j 0 ≡ 0
+unfolding allZero
+zero-at [] e j = refl
+zero-at (x ∷ xs) e zero = eqb-true x 0 (and-left (eqb x 0) (allZero xs) e)
+zero-at (x ∷ xs) e (suc j) = zero-at xs (and-right (eqb x 0) (allZero xs) e) j
+
+-- ---- what the tests of a place show
+
+pub record OwnHolds (n u : ℕ) (row cell : List ℕ) : Type 0 where
+  pub neighbors : within n (neighborsIn row) ≡ true
+  pub forming : within n (formingIn row) ≡ true
+  pub sets : setsHold n u (member (neighborsIn row)) (member (formingIn row)) ≡ true
+  pub height : heightHolds n u (heightIn row u) ≡ true
+  pub unused : allZero cell ≡ true
+
+pub record ChannelHolds (n u v : ℕ) (row cell : List ℕ) : Type 0 where
+  pub few : count cell ≤ 8
+  pub up : (member (neighborsIn row) v || member (formingIn row) v || eqb (count cell) 0) ≡ true
+  pub messages : all (messageHolds n u) (queue cell) ≡ true
+  pub rest : allZero (drop (1 + count cell * 8) cell) ≡ true
+
+pub own-holds : (n u : ℕ) (row cell : List ℕ) → ownPlace n u row cell ≡ true → OwnHolds n u row cell
+unfolding ownPlace
+own-holds n u row cell e =
+    go (within n (neighborsIn row)) (within n (formingIn row)) (setsHold n u (member (neighborsIn row)) (member (formingIn row)))
+    (heightHolds n u (heightIn row u)) (allZero cell) refl refl refl refl refl e
+  where
+    go : (a b c d z : Bool) → within n (neighborsIn row) ≡ a → within n (formingIn row) ≡ b
+        → setsHold n u (member (neighborsIn row)) (member (formingIn row)) ≡ c → heightHolds n u (heightIn row u) ≡ d → allZero cell ≡ z
+        → (a && b && c && d && z) ≡ true → OwnHolds n u row cell
+    go true true true true true p q r s o e = record { neighbors = p; forming = q; sets = r; height = s; unused = o }
+    go true true true true false p q r s o e = clash e refl
+    go true true true false z p q r s o e = clash e refl
+    go true true false d z p q r s o e = clash e refl
+    go true false c d z p q r s o e = clash e refl
+    go false b c d z p q r s o e = clash e refl
+
+pub channel-holds : (n u v : ℕ) (row cell : List ℕ) → channelPlace n u v row cell ≡ true → ChannelHolds n u v row cell
+unfolding channelPlace
+channel-holds n u v row cell e =
+    go (leb (count cell) 8) (member (neighborsIn row) v || member (formingIn row) v || eqb (count cell) 0)
+    (all (messageHolds n u) (queue cell)) (allZero (drop (1 + count cell * 8) cell)) refl refl refl refl e
+  where
+    go : (a b c z : Bool) → leb (count cell) 8 ≡ a → (member (neighborsIn row) v || member (formingIn row) v || eqb (count cell) 0) ≡ b
+        → all (messageHolds n u) (queue cell) ≡ c → allZero (drop (1 + count cell * 8) cell) ≡ z
+        → (a && b && c && z) ≡ true → ChannelHolds n u v row cell
+    go true true true true p q r o e = record { few = leb-true (count cell) 8 p; up = q; messages = r; rest = o }
+    go true true true false p q r o e = clash e refl
+    go true true false z p q r o e = clash e refl
+    go true false c z p q r o e = clash e refl
+    go false b c z p q r o e = clash e refl
+
+-- ---- the places of tables without a fault
+
+module _ (n : ℕ) (t : Tables) (sound : checkOn n t .number ≡ 0) where
+  pub sound-own : (u : ℕ) → Node n u → OwnHolds n u (nodeOf n u (t .nodes)) (channelOf n u u (t .channels))
+  unfolding place placeIn
+  sound-own u a =
+      own-holds n u (nodeOf n u (t .nodes)) (channelOf n u u (t .channels)) (rw (eq-eqb u u refl) at (sound-place n t sound u u a a))
+
+  module _ (u v : ℕ) (a : Node n u) (b : Node n v) (differ : u ≡ v → ⊥) where
+    other-place : (viewPlace n v (nodeOf n u (t .nodes)) && channelPlace n u v (nodeOf n u (t .nodes)) (channelOf n u v (t .channels))) ≡ true
+    unfolding place placeIn
+    other-place = rw (ne-eqb u v differ) at (sound-place n t sound u v a b)
+
+    pub sound-view : viewPlace n v (nodeOf n u (t .nodes)) ≡ true
+    sound-view =
+        and-left (viewPlace n v (nodeOf n u (t .nodes))) (channelPlace n u v (nodeOf n u (t .nodes)) (channelOf n u v (t .channels)))
+        other-place
+
+    pub sound-channel : ChannelHolds n u v (nodeOf n u (t .nodes)) (channelOf n u v (t .channels))
+    sound-channel =
+        channel-holds n u v (nodeOf n u (t .nodes)) (channelOf n u v (t .channels))
+        (and-right (viewPlace n v (nodeOf n u (t .nodes))) (channelPlace n u v (nodeOf n u (t .nodes)) (channelOf n u v (t .channels)))
+        other-place)
+
+-- ---- the tables fit
+
+-- a cell with zero words past its messages
+module _ (cell : List ℕ) (wide : length cell ≡ cellWidth) (words : (j : ℕ) → j < cellWidth → getD cell j 0 < 4294967296) where
+  zero-cell : allZero cell ≡ true → CellFits cell
+  zero-cell e =
+      let at = zero-at cell e in
+      record { wide = wide; few = omega (arith, at 0); deltas = λ k l. words (1 + (k * 8 + 3)) (omega arith); unused = λ j l h. at (1 + j) }
+
+  messages-cell : (n u v : ℕ) (row : List ℕ) → ChannelHolds n u v row cell → CellFits cell
+  messages-cell n u v row h = record {
+    wide = wide;
+    few = h .few;
+    deltas = λ k l. words (1 + (k * 8 + 3)) (omega arith);
+    unused = λ j l m.
+        let e : 1 + count cell * 8 + (j - count cell * 8) ≡ 1 + j = omega arith in
+        ap (λ (i : ℕ). getD cell i 0) (sym e) ∙ sym (getD-drop (1 + count cell * 8) cell (j - count cell * 8) 0)
+        ∙ zero-at (drop (1 + count cell * 8) cell) (h .rest) (j - count cell * 8);
+  }
+
+pub sound-fits : (n : ℕ) (t : Tables) → Words t → checkOn n t .number ≡ 0 → TablesFit n t
+sound-fits n t words sound = record { size = size; rows = row; cells = λ u v a b. cell u v a b (equal? u v) }
+  where
+    size : Sized n t
+    size = sound-sized n t sound
+
+    row : (u : ℕ) → Node n u → RowFits n (nodeOf n u (t .nodes))
+    row u a =
+        let own = sound-own n t sound u a in
+        record {
+          wide = node-length n u a (t .nodes) (size .nodes);
+          neighbors-lt = within-true n (neighborsIn (nodeOf n u (t .nodes))) (own .neighbors);
+          forming-lt = within-true n (formingIn (nodeOf n u (t .nodes))) (own .forming);
+          deltas = λ k l. row-word (width n) (u - 1) (t .nodes) (words .nodes) (3 + k * 7 + 3) (omega arith);
+        }
+
+    cell : (u v : ℕ) → Node n u → Node n v → (u ≡ v) ⊎ (u ≡ v → ⊥) → CellFits (channelOf n u v (t .channels))
+    cell u v a b d = go d
+      where
+        wide : length (channelOf n u v (t .channels)) ≡ cellWidth
+        wide = channel-length n u v a b (t .channels) (size .channels)
+
+        word : (j : ℕ) → j < cellWidth → getD (channelOf n u v (t .channels)) j 0 < 4294967296
+        word = row-word cellWidth (pairOf n u v) (t .channels) (words .channels)
+
+        go : (u ≡ v) ⊎ (u ≡ v → ⊥) → CellFits (channelOf n u v (t .channels))
+        go (inl e) =
+            zero-cell (channelOf n u v (t .channels)) wide word
+            (ap (λ (x : ℕ). allZero (channelOf n u x (t .channels))) (sym e) ∙ sound-own n t sound u a .unused)
+        go (inr q) =
+            messages-cell (channelOf n u v (t .channels)) wide word n u v (nodeOf n u (t .nodes)) (sound-channel n t sound u v a b q)

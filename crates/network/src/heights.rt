@@ -1,0 +1,52 @@
+// The rules of a height as tests (document 01, "What a station holds").
+ghost use mathlib.Core.Path.{_≡_};
+ghost use mathlib.Core.Bool.{_&&_};
+ghost use Prim.Native.Nat.{_≤_};
+ghost use Rattle.height.specs.Words.{Negated};
+ghost use Rattle.nodeset.specs.NodeSet.{member, within};
+ghost use Rattle.protocol.specs.Component.{Node};
+ghost use Rattle.protocol.specs.Holds.{levelHolds, deltaHolds, heightHolds, setsHold};
+use height::Height;
+use height::ReferenceLevel;
+
+fn level_holds(n: u32, l: ReferenceLevel) -> bool
+    ensures { λ r. ⌜ r ≡ levelHolds n l ⌝ }
+{
+    let tau = l.tau.0;
+    let oid = l.oid;
+    let r = l.r;
+    let none = (oid == 0) & ((tau == 0) & (r == 0));
+    let some = (oid != 0) & (tau != 0);
+    (oid <= n) & (r <= 1) & (none | some)
+}
+
+fn delta_holds(d: i32) -> bool
+    ensures { λ r. ⌜ r ≡ deltaHolds d ⌝ }
+{
+    (-32768 <= d) & (d <= 32767)
+}
+
+// A height of node k.
+pub fn height_holds(n: u32, k: u32, h: Height) -> bool
+    requires { ⌜ Negated (h .pair .nlts .0) ⌝ }
+    ensures { λ r. ⌜ r ≡ heightHolds n k h ⌝ }
+{
+    let lid = h.pair.lid;
+    let level = level_holds(n, h.level);
+    let delta = delta_holds(h.delta);
+    level & delta & (1 <= lid) & (lid <= n) & (h.id == k)
+}
+
+// Two sets of node u, as words: of nodes 1 to n, disjoint, never holding u.
+pub fn sets_hold(n: u32, u: u32, neighbors: u32, forming: u32) -> bool
+    requires { ⌜ (n ≤ 16) × Node n u ⌝ }
+    ensures { λ r. ⌜ r ≡ (within n neighbors && within n forming && setsHold n u (member neighbors) (member forming)) ⌝ }
+{
+    let end: u32 = 1 << n;
+    if (neighbors < end) & (forming < end) {
+        let a = neighbors as u16;
+        let b = forming as u16;
+        return nodeset::disjoint(a, b) & !nodeset::contains(a, u) & !nodeset::contains(b, u);
+    }
+    false
+}
