@@ -1,0 +1,32 @@
+-- `decision::rule::of_receipt` meets its contract: the tests are those of `receiptRule`, and v's pair is the view's.
+-- Assumes nothing.
+use borrow.Author.Needs.{needs}
+use Rattle.protocol.specs.Rules.{receiptRule}
+use Rattle.protocol.proofs.TestsLaws.{update-at}
+use Rattle.decision.proofs.rule.of_receipt.Statement.{statement}
+use Rattle.decision.proofs.rule.of_receipt.Tie as tie
+
+returns : tie.Need-returns
+unfolding receiptRule
+returns c =
+    let b = c .before .before in
+    rw (update-at, ← b .before .height-of .ensures .0, ← b .pair-same .ensures, c .before .if1 .taken) (c .of-equal-pairs .ensures)
+
+returns-2 : tie.Need-returns-2
+unfolding receiptRule
+returns-2 c =
+    let b = c .before .before in
+    let own = b .before .before .height-of .ensures .0 in
+    rw (update-at, ← own, ← b .before .pair-same .ensures, b .if1 .left, ← c .before .pair-before .ensures, c .if2 .taken)
+
+returns-3 : tie.Need-returns-3
+unfolding receiptRule
+returns-3 c =
+    let b = c .before .before in
+    let own = b .before .before .height-of .ensures .0 in
+    rw (update-at, ← own, ← b .before .pair-same .ensures, b .if1 .left, ← c .before .pair-before .ensures, c .if2 .left)
+
+pub of-receipt-spec : {M : Type 1} → statement M
+of-receipt-spec =
+    tie.close
+    (tie.spec (λ c κs. search needs) (λ c κs. search needs) (λ c κs. search needs) returns (λ c κs. search needs) returns-2 returns-3)

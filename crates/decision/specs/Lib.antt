@@ -1,0 +1,2 @@
+-- Definitions that the contracts of `decision` cite; the meaning of each is in `protocol`.
+pub mod After

@@ -1,0 +1,154 @@
+// What a rule does: the height it leaves, and the set it sends to.
+ghost use mathlib.Core.Path.{_≡_};
+ghost use mathlib.Core.Bool.{true, false};
+ghost use Prim.Native.Nat.{_≤_};
+ghost use lib.IntN.{ℤ, pos, sucℤ, predℤ};
+ghost use lib.ListN.{length};
+ghost use lib.Signed.{ltZ};
+ghost use Rattle.height.specs.Words.{Negated};
+ghost use Rattle.nodeset.specs.NodeSet.{member, setOf};
+ghost use Rattle.protocol.specs.Component.{Node};
+ghost use Rattle.protocol.specs.Holds.{leastDelta, greatestDelta};
+ghost use Rattle.tables.specs.Tables.{width};
+ghost use Rattle.decision.specs.After.{seen, afterRule, sendsTo, NegatedAfter, AdoptsNode};
+use super::After;
+use height::Height;
+use height::LeaderPair;
+use height::ReferenceLevel;
+use height::Time;
+use protocol::Rule;
+
+// A height of node u at depth `delta`.
+fn height_with(level: ReferenceLevel, delta: i32, pair: LeaderPair, u: u32) -> Height
+    ensures { λ r. ⌜ r ≡ record { level = level; delta = delta; pair = pair; id = u } ⌝ }
+{
+    Height {
+        level,
+        delta,
+        pair,
+        id: u,
+    }
+}
+
+fn one_more(delta: i32) -> i32
+    requires { ⌜ ltZ delta greatestDelta ≡ true ⌝ }
+    ensures { λ r. ⌜ r ≡ sucℤ delta ⌝ }
+{
+    delta + 1
+}
+
+fn one_less(delta: i32) -> i32
+    requires { ⌜ ltZ leastDelta delta ≡ true ⌝ }
+    ensures { λ r. ⌜ r ≡ predℤ delta ⌝ }
+{
+    delta - 1
+}
+
+// Rule P: the level taken, one below the smallest depth with it, u's pair.
+fn propagated(
+    n: u32,
+    set: u16,
+    row: &[u32],
+    v: u32,
+    view: Height,
+    u: u32,
+    level: ReferenceLevel,
+) -> After
+    requires { ⌜ (n ≤ 16) × Node n u × (length (now row) ≡ width n) × Negated (view .pair .nlts .0) ⌝ }
+    ensures { λ r. ⌜ (r ≡ afterRule n (member «set») (seen (now (row .entry)) v view) u v 0 (Rule.PropagateLargestRefLevel level)) × NegatedAfter r ⌝ }
+{
+    let own = super::sinks::height_of(n, row, v, view, u);
+    let least = super::levels::smallest_delta(n, set, row, v, view, level);
+    if -32768 < least {
+        let delta = one_less(least);
+        let pair = own.pair;
+        return After::New(height_with(level, delta, pair, u));
+    }
+    After::TooDeep
+}
+
+// Rule A: w's level and pair, one above w's depth.
+fn adopted(n: u32, set: u16, row: &[u32], v: u32, view: Height, u: u32, w: u32) -> After
+    requires { ⌜ (n ≤ 16) × Node n w × (length (now row) ≡ width n) × Negated (view .pair .nlts .0) ⌝ }
+    ensures { λ r. ⌜ (r ≡ afterRule n (member «set») (seen (now (row .entry)) v view) u v 0 (Rule.AdoptLpIfPriority w)) × NegatedAfter r ⌝ }
+{
+    let other = super::sinks::height_of(n, row, v, view, w);
+    if other.delta < 32767 {
+        let delta = one_more(other.delta);
+        let level = other.level;
+        let pair = other.pair;
+        return After::New(height_with(level, delta, pair, u));
+    }
+    After::TooDeep
+}
+
+// Rule S: a level of u's own.
+fn started(n: u32, row: &[u32], v: u32, view: Height, u: u32, t: Time) -> Height
+    requires { ⌜ (n ≤ 16) × Node n u × (length (now row) ≡ width n) × Negated (view .pair .nlts .0) ⌝ }
+    ensures { λ r. ⌜ (r ≡ record { level = record { tau = record { 0 = t .0 }; oid = u; r = 0 }; delta = pos 0; pair = seen (now (row .entry)) v view u .pair; id = u }) × Negated (r .pair .nlts .0) ⌝ }
+{
+    let own = super::sinks::height_of(n, row, v, view, u);
+    let level = ReferenceLevel {
+        tau: t,
+        oid: u,
+        r: 0,
+    };
+    let pair = own.pair;
+    height_with(level, 0, pair, u)
+}
+
+// Rule F: v's level, reflected.
+fn reflected(n: u32, row: &[u32], v: u32, view: Height, u: u32) -> Height
+    requires { ⌜ (n ≤ 16) × Node n u × Node n v × (length (now row) ≡ width n) × Negated (view .pair .nlts .0) ⌝ }
+    ensures { λ r. ⌜ (r ≡ record { level = record { tau = record { 0 = seen (now (row .entry)) v view v .level .tau .0 }; oid = seen (now (row .entry)) v view v .level .oid; r = 1 }; delta = pos 0; pair = seen (now (row .entry)) v view u .pair; id = u }) × Negated (r .pair .nlts .0) ⌝ }
+{
+    let own = super::sinks::height_of(n, row, v, view, u);
+    let searched = view.level;
+    let level = ReferenceLevel {
+        tau: Time(searched.tau.0),
+        oid: searched.oid,
+        r: 1,
+    };
+    let pair = own.pair;
+    height_with(level, 0, pair, u)
+}
+
+// u's height after the rule, at the moved clock t; `set` is u's neighbors.
+pub fn height_after(
+    n: u32,
+    set: u16,
+    row: &[u32],
+    v: u32,
+    view: Height,
+    u: u32,
+    t: Time,
+    rule: Rule,
+) -> After
+    requires { ⌜ (n ≤ 16) × Node n u × Node n v × (length (now row) ≡ width n) × Negated (view .pair .nlts .0) × AdoptsNode n rule ⌝ }
+    ensures { λ r. ⌜ (r ≡ afterRule n (member «set») (seen (now (row .entry)) v view) u v (t .0) rule) × NegatedAfter r ⌝ }
+{
+    match rule {
+        Rule::ElectSelf => After::New(height::self_elected(u, t)),
+        Rule::StartNewRefLevel => After::New(started(n, row, v, view, u, t)),
+        Rule::ReflectRefLevel => After::New(reflected(n, row, v, view, u)),
+        Rule::PropagateLargestRefLevel(level) => propagated(n, set, row, v, view, u, level),
+        Rule::AdoptLpIfPriority(w) => adopted(n, set, row, v, view, u, w),
+        Rule::ChannelUp => After::New(super::sinks::height_of(n, row, v, view, u)),
+        Rule::NoChange => After::New(super::sinks::height_of(n, row, v, view, u)),
+        Rule::Ignored => After::New(super::sinks::height_of(n, row, v, view, u)),
+        Rule::Reply => After::New(super::sinks::height_of(n, row, v, view, u)),
+    }
+}
+
+// The set that a rule sends to: v alone, nobody, or all of both sets.
+pub fn sent_to(rule: Rule, neighbors: u16, forming: u16, v: u32) -> u16
+    ensures { λ r. ⌜ r ≡ setOf 16 (sendsTo v rule neighbors forming) ⌝ }
+{
+    match rule {
+        Rule::ChannelUp => nodeset::single(v),
+        Rule::Reply => nodeset::single(v),
+        Rule::NoChange => 0,
+        Rule::Ignored => 0,
+        _ => nodeset::union(neighbors, forming),
+    }
+}
