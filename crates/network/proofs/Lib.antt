@@ -4,4 +4,5 @@ pub mod PlaceLaws
 pub mod Walks
 pub mod CheckLaws
 pub mod SoundTables
+pub mod SoundNetworks
 pub mod FilledLaws

@@ -55,7 +55,7 @@ rows-length w zero f h = omega arith
 rows-length w (suc k) f h =
     length-append (f 1) (rows k (λ i. f (suc i))) ∙ omega (arith, h 1, rows-length w k (λ i. f (suc i)) (λ i. h (suc i)))
 
-row-of : (w k : ℕ) (f : ℕ → List ℕ) → ((i : ℕ) → length (f i) ≡ w) → (i : ℕ) → i < k → rowAt w i (rows k f) ≡ f (suc i)
+pub row-of : (w k : ℕ) (f : ℕ → List ℕ) → ((i : ℕ) → length (f i) ≡ w) → (i : ℕ) → i < k → rowAt w i (rows k f) ≡ f (suc i)
 unfolding rows rowAt
 row-of w zero f h i l = absurd (omega arith)
 row-of w (suc k) f h zero l =
@@ -69,7 +69,7 @@ row-of w (suc k) f h (suc i) l =
 
 -- ---- a node's words
 
-words-length : (h : Height) → length (heightWords h) ≡ 7
+pub words-length : (h : Height) → length (heightWords h) ≡ 7
 unfolding heightWords
 words-length h = refl
 
@@ -90,7 +90,7 @@ past-three a b c ws i =
     same-words (a ∷ b ∷ c ∷ ws) ws (3 + i) i
     (λ k l. let e : 3 + i + k ≡ 3 + (i + k) = omega arith in rw e (getD-append-add (a ∷ b ∷ c ∷ []) ws (i + k) 0))
 
-node-height : (n c : ℕ) (N F : ℕ → Bool) (H : ℕ → Height) (k : ℕ) → k < n → Wordy (H (suc k)) → heightIn (nodeWords n c N F H) (suc k) ≡ H (suc k)
+pub node-height : (n c : ℕ) (N F : ℕ → Bool) (H : ℕ → Height) (k : ℕ) → k < n → Wordy (H (suc k)) → heightIn (nodeWords n c N F H) (suc k) ≡ H (suc k)
 unfolding nodeWords heightIn
 node-height n c N F H k l w =
     past-three c (setOf n N) (setOf n F) (rows n (λ v. heightWords (H v))) (k * 7)
@@ -100,7 +100,7 @@ node-height n c N F H k l w =
 
 -- ---- a channel's words
 
-message-length : (m : Message) → length (messageWords m) ≡ 8
+pub message-length : (m : Message) → length (messageWords m) ≡ 8
 unfolding messageWords heightWords
 message-length m = refl
 
@@ -149,7 +149,7 @@ outside n k e = go (choice (leb (suc k) n))
     go (yes! f) = clash (rw (le-leb 1 (suc k) (omega arith), f)) e
     go (no! f) = omega (arith, leb-false (suc k) n f)
 
-set-back : (n : ℕ) (f : ℕ → Bool) (k : ℕ) → member (setOf n f) k ≡ cond (isNode n k) (f k) false
+pub set-back : (n : ℕ) (f : ℕ → Bool) (k : ℕ) → member (setOf n f) k ≡ cond (isNode n k) (f k) false
 set-back n f zero = member-zero (setOf n f)
 set-back n f (suc k) = go (choice (isNode n (suc k)))
   where
@@ -160,7 +160,7 @@ set-back n f (suc k) = go (choice (isNode n (suc k)))
 -- ---- the network
 
 module _ (n : ℕ) (p : Network) (ok : Storable n p) where
-  node-of : (u : ℕ) → Node n u → nodeOf n u (tablesOf n p .nodes) ≡ nodeWords n (p .clock u) (p .neighbors u) (p .forming u) (p .height u)
+  pub node-of : (u : ℕ) → Node n u → nodeOf n u (tablesOf n p .nodes) ≡ nodeWords n (p .clock u) (p .neighbors u) (p .forming u) (p .height u)
   unfolding tablesOf
   node-of u a =
       let e : suc (u - 1) ≡ u = omega (arith, a .low) in
@@ -168,7 +168,7 @@ module _ (n : ℕ) (p : Network) (ok : Storable n p) where
       (λ u. node-length n (p .clock u) (p .neighbors u) (p .forming u) (p .height u)) (u - 1) (omega (arith, a .low, a .high))
       ∙ ap (λ (u : ℕ). nodeWords n (p .clock u) (p .neighbors u) (p .forming u) (p .height u)) e
 
-  cell-of : (u v : ℕ) → Node n u → Node n v → channelOf n u v (tablesOf n p .channels) ≡ cellWords (p .channel u v)
+  pub cell-of : (u v : ℕ) → Node n u → Node n v → channelOf n u v (tablesOf n p .channels) ≡ cellWords (p .channel u v)
   unfolding tablesOf
   cell-of u v a b =
       let e : suc (u - 1) ≡ u = omega (arith, a .low) in
