@@ -5,4 +5,5 @@ pub mod Walks
 pub mod CheckLaws
 pub mod SoundTables
 pub mod SoundNetworks
+pub mod SoundLoads
 pub mod FilledLaws

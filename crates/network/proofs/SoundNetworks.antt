@@ -1,5 +1,5 @@
--- The tables of a sound network pass the check, and tables that pass it load to a sound network.
--- Assumes that the network's numbers fit in words (`Storable`), or that the words are of 32 bits (`Words`).
+-- The tables of a sound network pass the check.
+-- Assumes that the network's numbers fit in words (`Storable`).
 use Prim.Native.Nat.{ℕ, zero, suc, _+_, _-_, _*_, _<_, _≤_}
 use native.Mathlib.Omega.{arith}
 use mathlib.Core.Bool.{Bool, true, false, not, cond, _&&_, _||_}
@@ -224,7 +224,7 @@ module _ (n : ℕ) (p : Network) (ok : Storable n p) (holds : sound n p ≡ true
 
   place-back : (u v : ℕ) → Node n u → Node n v → place n (tablesOf n p) u v ≡ true
   unfolding place placeIn placeHolds
-  place-back u v a b = rw (node-of n p ok u a, cell-of n p ok u v a b) (go (equal? u v) (at u v a b))
+  place-back u v a b = rw (node-of n p u a, cell-of n p u v a b) (go (equal? u v) (at u v a b))
     where
       row : List ℕ
       row = nodeWords n (p .clock u) (p .neighbors u) (p .forming u) (p .height u)
@@ -241,7 +241,7 @@ module _ (n : ℕ) (p : Network) (ok : Storable n p) (holds : sound n p ≡ true
   sizes : sized n (tablesOf n p) ≡ true
   unfolding sized
   sizes =
-      let s = tables-sized n p ok low few in
+      let s = tables-sized n p low few in
       rw (le-leb n 16 few, le-leb 1 n low, eq-eqb _ _ (s .nodes), eq-eqb _ _ (s .channels))
 
   pub sound-check : checkOn n (tablesOf n p) ≡ checked 0 0 0

@@ -32,7 +32,7 @@ pub record Words (t : Tables) : Type 0 where
   pub channels : (i : ℕ) → getD (t .channels) i 0 < 4294967296
 
 -- a word of a row is a word of the table
-row-word : (w i : ℕ) (xs : List ℕ) → ((j : ℕ) → getD xs j 0 < 4294967296) → (j : ℕ) → j < w → getD (rowAt w i xs) j 0 < 4294967296
+pub row-word : (w i : ℕ) (xs : List ℕ) → ((j : ℕ) → getD xs j 0 < 4294967296) → (j : ℕ) → j < w → getD (rowAt w i xs) j 0 < 4294967296
 unfolding rowAt
 row-word w i xs h j l = rw (getD-take w (drop (i * w) xs) j 0 l, getD-drop (i * w) xs j 0) (h (i * w + j))
 

@@ -17,7 +17,7 @@ use Rattle.protocol.proofs.TestsLaws.{Choice, yes!, no!, choice, SameOr
 no-node : (n u : ℕ) → isNode n u ≡ false → Node n u → ⊥
 no-node n u e s = clash (rw (le-leb 1 u (s .low), le-leb u n (s .high))) e
 
-pairs-is : {A : Type 0} (n : ℕ) (f g : ℕ → ℕ → A)
+pub pairs-is : {A : Type 0} (n : ℕ) (f g : ℕ → ℕ → A)
     → ((u v : ℕ) → (Node n u → ⊥) → g u v ≡ f u v)
     → ((u v : ℕ) → Node n u → (Node n v → ⊥) → g u v ≡ f u v)
     → atPairs n f g ≡ f
@@ -28,7 +28,7 @@ pairs-is n f g outU outV = fun-ext λ u. fun-ext λ v. go u v (choice (isNode n 
     go u v (yes! e) (no! d) = rw (e, d) (outV u v (is-node n u e) (no-node n v d))
     go u v (yes! e) (yes! d) = rw (e, d)
 
-nodes-is : {A : Type 0} (n : ℕ) (f g : ℕ → A) → ((u : ℕ) → (Node n u → ⊥) → g u ≡ f u) → atNodes n f g ≡ f
+pub nodes-is : {A : Type 0} (n : ℕ) (f g : ℕ → A) → ((u : ℕ) → (Node n u → ⊥) → g u ≡ f u) → atNodes n f g ≡ f
 nodes-is n f g out = fun-ext λ u. go u (choice (isNode n u))
   where
     go : (u : ℕ) → Choice (isNode n u) → atNodes n f g u ≡ f u

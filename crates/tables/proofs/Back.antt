@@ -159,7 +159,7 @@ set-back n f (suc k) = go (choice (isNode n (suc k)))
 
 -- ---- the network
 
-module _ (n : ℕ) (p : Network) (ok : Storable n p) where
+module _ (n : ℕ) (p : Network) where
   pub node-of : (u : ℕ) → Node n u → nodeOf n u (tablesOf n p .nodes) ≡ nodeWords n (p .clock u) (p .neighbors u) (p .forming u) (p .height u)
   unfolding tablesOf
   node-of u a =
@@ -183,6 +183,20 @@ module _ (n : ℕ) (p : Network) (ok : Storable n p) where
       ∙ row-of cellWidth n (λ v. cellWords (p .channel (suc (u - 1)) v)) (λ v. cell-length (p .channel (suc (u - 1)) v)) (v - 1) j
       ∙ rw (e, f)
 
+  pub tables-sized : 1 ≤ n → n ≤ 16 → Sized n (tablesOf n p)
+  unfolding tablesOf
+  tables-sized l h =
+      let cells = rows-length (n * cellWidth) n (λ u. rows n (λ v. cellWords (p .channel u v)))
+      (λ u. rows-length cellWidth n (λ v. cellWords (p .channel u v)) (λ v. cell-length (p .channel u v))) in
+      record {
+        low = l;
+        few = h;
+        nodes = rows-length (width n) n (λ u. nodeWords n (p .clock u) (p .neighbors u) (p .forming u) (p .height u))
+            (λ u. node-length n (p .clock u) (p .neighbors u) (p .forming u) (p .height u));
+        channels = cells ∙ omega arith;
+      }
+
+module _ (n : ℕ) (p : Network) (ok : Storable n p) where
   heights-of : (u : ℕ) → Node n u → (v : ℕ) → heightIn (nodeWords n (p .clock u) (p .neighbors u) (p .forming u) (p .height u)) v
       ≡ cond (isNode n v) (p .height u v) (fresh .height u v)
   heights-of u a zero =
@@ -229,32 +243,19 @@ module _ (n : ℕ) (p : Network) (ok : Storable n p) where
   loaded : load n (tablesOf n p) ≡ restrict n p
   unfolding load restrict nodeWords
   loaded = λ i. record {
-    clock = same-nodes (clockAt n (tablesOf n p)) (p .clock) (fresh .clock) (λ u a. ap clockIn (node-of u a)) i;
+    clock = same-nodes (clockAt n (tablesOf n p)) (p .clock) (fresh .clock) (λ u a. ap clockIn (node-of n p u a)) i;
     neighbors = nodes-pairs (neighborsAt n (tablesOf n p)) (p .neighbors) (fresh .neighbors)
-        (λ u a v. ap (λ (r : List ℕ). member (neighborsIn r) v) (node-of u a) ∙ set-back n (p .neighbors u) v) i;
+        (λ u a v. ap (λ (r : List ℕ). member (neighborsIn r) v) (node-of n p u a) ∙ set-back n (p .neighbors u) v) i;
     forming = nodes-pairs (formingAt n (tablesOf n p)) (p .forming) (fresh .forming)
-        (λ u a v. ap (λ (r : List ℕ). member (formingIn r) v) (node-of u a) ∙ set-back n (p .forming u) v) i;
+        (λ u a v. ap (λ (r : List ℕ). member (formingIn r) v) (node-of n p u a) ∙ set-back n (p .forming u) v) i;
     height = nodes-pairs (heightsAt n (tablesOf n p)) (p .height) (fresh .height)
-        (λ u a v. ap (λ (r : List ℕ). heightIn r v) (node-of u a) ∙ heights-of u a v) i;
+        (λ u a v. ap (λ (r : List ℕ). heightIn r v) (node-of n p u a) ∙ heights-of u a v) i;
     channel = same-pairs (messagesOn n (tablesOf n p)) (p .channel) (fresh .channel)
-        (λ u v a b. ap queue (cell-of u v a b) ∙ queue-back (p .channel u v) (ok .messages u v a b) (ok .short u v a b)) i;
+        (λ u v a b. ap queue (cell-of n p u v a b) ∙ queue-back (p .channel u v) (ok .messages u v a b) (ok .short u v a b)) i;
   }
 
   pub load-back : load n (tablesOf n p) ≡ p
   load-back = loaded ∙ ok .inside
-
-  pub tables-sized : 1 ≤ n → n ≤ 16 → Sized n (tablesOf n p)
-  unfolding tablesOf
-  tables-sized l h =
-      let cells = rows-length (n * cellWidth) n (λ u. rows n (λ v. cellWords (p .channel u v)))
-      (λ u. rows-length cellWidth n (λ v. cellWords (p .channel u v)) (λ v. cell-length (p .channel u v))) in
-      record {
-        low = l;
-        few = h;
-        nodes = rows-length (width n) n (λ u. nodeWords n (p .clock u) (p .neighbors u) (p .forming u) (p .height u))
-            (λ u. node-length n (p .clock u) (p .neighbors u) (p .forming u) (p .height u));
-        channels = cells ∙ omega arith;
-      }
 
 -- ---- a good network is storable
 

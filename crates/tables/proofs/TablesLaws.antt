@@ -1,6 +1,6 @@
 -- Tables whose words their network gives back: `tablesOf n (load n t) ≡ t`. What a loaded network holds at a node.
 -- Assumes nothing.
-use Prim.Native.Nat.{ℕ, zero, suc, _+_, _-_, _*_, _<_, _≤_}
+use Prim.Native.Nat.{ℕ, zero, suc, _+_, _-_, _*_, _^_, _<_, _≤_}
 use native.Mathlib.Omega.{arith}
 use mathlib.Core.Bool.{Bool, true, false, cond, _&&_}
 use mathlib.Core.List.{List}
@@ -9,7 +9,9 @@ use lib.Dec.{leb}
 use lib.ListN.{length}
 use borrow.Author.Tests.{le-leb}
 use Rattle.height.specs.declared.Height.{Height}
+use Rattle.height.proofs.OrderLaws.{clash}
 use Rattle.nodeset.specs.NodeSet.{member}
+use Rattle.nodeset.proofs.Members.{member-zero, none-above}
 use Rattle.protocol.specs.Component.{Node}
 use Rattle.protocol.specs.Network.{Message, Network, isNode}
 use Rattle.tables.specs.Cell.{queue, cellWords}
@@ -25,6 +27,17 @@ use Rattle.tables.proofs.WordRuns.{rows-are, row-in}
 
 pub is-node : (n u : ℕ) → Node n u → isNode n u ≡ true
 is-node n u a = rw (le-leb 1 u (a .low), le-leb u n (a .high))
+
+-- the members of a set within n are nodes
+pub member-node : (n s : ℕ) → s < 2 ^ n → (k : ℕ) → member s k ≡ true → Node n k
+member-node n s h zero e = clash e (member-zero s)
+member-node n s h (suc k) e = go (in-range (suc k) e)
+  where
+    in-range : (k : ℕ) → member s k ≡ true → n < k → ⊥
+    in-range k e l = clash e (none-above n s k h l)
+
+    go : (n < suc k → ⊥) → Node n (suc k)
+    go d = record { low = omega arith; high = omega arith }
 
 -- ---- a loaded network at a node
 
