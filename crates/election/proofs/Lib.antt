@@ -1,0 +1,14 @@
+-- Laws of the events on tables.
+pub mod SetChanges
+pub mod SendLaws
+pub mod CellChanges
+pub mod Committed
+pub mod FinishLaws
+pub mod Finished
+pub mod CallerLaws
+pub mod RunLaws
+pub mod StepLaws
+pub mod EventLaws
+pub mod EndLaws
+pub mod CheckedLaws
+pub mod WriteLaws

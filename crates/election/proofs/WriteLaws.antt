@@ -1,0 +1,48 @@
+-- What writing an event leaves: room after the event cleared a channel, and the cells after it sent.
+-- Assumes nothing.
+use Prim.Native.Nat.{ℕ, _*_, _≤_}
+use native.Mathlib.Omega.{arith}
+use mathlib.Core.Bool.{Bool, true, false, not, cond, _&&_, _||_, and-false}
+use mathlib.Core.List.{List}
+use mathlib.Core.Logic.{_⊎_, inl, inr}
+use mathlib.Core.Path.{_≡_, refl, sym, ap, _∙_}
+use lib.Dec.{eqb, ltb}
+use lib.ListN.{length}
+use borrow.Author.Tests.{ne-eqb}
+use Rattle.height.specs.declared.Height.{Height}
+use Rattle.nodeset.specs.NodeSet.{member}
+use Rattle.protocol.specs.Component.{Node}
+use Rattle.protocol.specs.Functions.{every}
+use Rattle.protocol.proofs.TestsLaws.{equal?, every-at, every-all}
+use Rattle.tables.specs.Cell.{count, appended}
+use Rattle.tables.specs.Tables.{channelOf}
+use Rattle.election.specs.Cells.{CellsAre, cellsOf, Silenced, clearedCells, sentCells, roomFor}
+use Rattle.election.specs.declared.Kind.{Kind}
+use Rattle.election.specs.declared.Kind.the-variants.{Raised, Dropped, Received}
+
+-- a cleared channel has no less room than it had
+module _ (n u v to : ℕ) (a : Node n u) (differ : u ≡ v → ⊥) (cs cs₁ : List ℕ) where
+  room-at : (kind : Kind) → CellsAre n cs₁ (clearedCells kind n u v cs) → Silenced kind to v → (w : ℕ) → Node n w
+      → roomFor n u to cs w ≡ true → roomFor n u to cs₁ w ≡ true
+  unfolding roomFor
+  room-at Raised are s w d r = rw (are .at u w a d) r
+  room-at Received are s w d r = rw (are .at u w a d, ne-eqb u v differ) r
+  room-at Dropped are s w d r = go (equal? w v)
+    where
+      go : (w ≡ v) ⊎ (w ≡ v → ⊥) → (not (member to w) || ltb (count (channelOf n u w cs₁)) 8) ≡ true
+      go (inl e) = rw (e, s)
+      go (inr f) = rw (are .at u w a d, ne-eqb w v f, and-false) r
+
+  pub room-cleared : (kind : Kind) → CellsAre n cs₁ (clearedCells kind n u v cs) → Silenced kind to v
+      → every n (roomFor n u to cs) ≡ true → every n (roomFor n u to cs₁) ≡ true
+  room-cleared kind are s r =
+      every-all n (roomFor n u to cs₁)
+      (λ w l h. room-at kind are s w (record { low = l; high = h }) (every-at n (roomFor n u to cs) r w l h))
+
+-- the cells after sending, over the cells before the clearing
+pub sent-cleared : (n u to : ℕ) (h : Height) (t : ℕ) (cs₁ cs₂ : List ℕ) (f : ℕ → ℕ → List ℕ)
+    → CellsAre n cs₁ f → CellsAre n cs₂ (sentCells u to h t (cellsOf n cs₁)) → CellsAre n cs₂ (sentCells u to h t f)
+sent-cleared n u to h t cs₁ cs₂ f one two = record {
+  size = two .size;
+  at = λ x y c d. two .at x y c d ∙ unfold sentCells in rw (one .at x y c d);
+}

@@ -1,0 +1,34 @@
+-- `election::events::receive_named` meets its contract: refused with 3, or the event between two different nodes.
+-- Assumes nothing.
+use borrow.Author.Needs.{needs}
+use mathlib.Core.Bool.{not}
+use mathlib.Core.Path.{sym, ap, _∙_}
+use Rattle.election.proofs.EventLaws.{named-between, misnamed-receive}
+use Rattle.election.proofs.StepLaws.{step-misnamed}
+use Rattle.election.proofs.events.receive_named.Statement.{statement}
+use Rattle.election.proofs.events.receive_named.Tie as tie
+
+are-named-requires : tie.Need-are-named-requires
+are-named-requires c κs = search needs
+
+receive-at-requires : tie.Need-receive-at-requires
+receive-at-requires c κs =
+    let i = c .before .before in
+    named-between _ _ _ _ (i .before .before .before .before .pre) (sym (i .before .are-named .ensures) ∙ i .if1 .taken)
+
+same-length : tie.Need-same-length
+same-length c = search needs
+
+same-length-2 : tie.Need-same-length-2
+same-length-2 c = search needs
+
+returns : tie.Need-returns
+returns c = search needs
+
+returns-2 : tie.Need-returns-2
+returns-2 c =
+    step-misnamed _ _ (c .before .before .before .before .pre) _
+    (misnamed-receive _ _ _ ∙ ap not (sym (c .before .are-named .ensures) ∙ c .if1 .left))
+
+pub receive-named-spec : {M : Type 1} → statement M
+receive-named-spec = tie.close (tie.spec are-named-requires receive-at-requires same-length same-length-2 returns returns-2)

@@ -1,0 +1,35 @@
+-- An event on lent tables: what it answers and what both tables are afterwards, by the meaning alone.
+-- Document 01, "Returned numbers": 1, 2, then 3 to 9 of the loaded network; a refused call leaves the tables as they were.
+use Prim.Native.Nat.{ℕ}
+use mathlib.Core.Bool.{Bool, cond}
+use lib.Dec.{eqb}
+use Rattle.network.specs.Check.{SaidCheck, checkOn}
+use Rattle.protocol.specs.Answer.{Said, saidRefused}
+use Rattle.protocol.specs.Network.{Network}
+use Rattle.protocol.specs.Refusal.{answer, next}
+use Rattle.protocol.specs.Step.{Event}
+use Rattle.tables.specs.Load.{load, tablesOf}
+use Rattle.tables.specs.Tables.{Tables}
+
+-- what an event says, and the tables after it
+pub record Outcome : Type 0 where
+  pub said : Said
+  pub after : Tables
+
+abbrev pub outcome : Said → Tables → Outcome
+outcome s t = record { said = s; after = t }
+
+-- the tables that hold the new network, where they held the old one
+abbrev pub stored : ℕ → Tables → Network → Tables
+stored n old new = tablesOf n new
+
+-- 3 to 9, or carried out
+unfoldable pub stepAt : ℕ → Event → Tables → Outcome
+stepAt n e t = outcome (answer n (load n t) e) (stored n t (next n (load n t) e))
+
+-- by what the check of the tables says: 1 or 2, else on
+unfoldable pub stepChecked : ℕ → Event → Tables → SaidCheck → Outcome
+stepChecked n e t c = cond (eqb (c .number) 0) (stepAt n e t) (outcome (saidRefused (c .number) (c .faultAt) (c .faultWith)) t)
+
+unfoldable pub stepOn : ℕ → Event → Tables → Outcome
+stepOn n e t = stepChecked n e t (checkOn n t)

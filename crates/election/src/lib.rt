@@ -1,0 +1,53 @@
+// The three events on lent tables (document 01, "The three events"). Any n, u, v and any tables may be handed over.
+ghost use mathlib.Core.Path.{_≡_};
+ghost use Rattle.protocol.specs.Answer.{said};
+ghost use Rattle.protocol.specs.Step.{up, down, receive};
+ghost use Rattle.tables.specs.Tables.{before, after};
+ghost use Rattle.election.specs.StepOn.{outcome, stepOn};
+use network::Checked;
+use protocol::Answer;
+use protocol::Refusal;
+
+pub mod events;
+pub mod finish;
+pub mod sending;
+
+// The kind of an event: what it does to a channel before it sends.
+pub enum Kind {
+    Raised,
+    Dropped,
+    Received,
+}
+
+// Channel u to v goes up, at u.
+pub fn up(n: u32, u: u32, v: u32, nodes: &mut [u32], channels: &mut [u32]) -> Answer
+    ensures { λ r. ⌜ outcome (said r) (after nodes channels) ≡ stepOn n (up u v) (before nodes channels) ⌝ }
+{
+    match network::check(n, nodes, channels) {
+        Checked::Sizes => Answer::Refused(Refusal::Sizes),
+        Checked::Fault(a, b) => Answer::Refused(Refusal::Fault(a, b)),
+        Checked::Sound => events::up_named(n, u, v, nodes, channels),
+    }
+}
+
+// Channel u to v goes down, at u.
+pub fn down(n: u32, u: u32, v: u32, nodes: &mut [u32], channels: &mut [u32]) -> Answer
+    ensures { λ r. ⌜ outcome (said r) (after nodes channels) ≡ stepOn n (down u v) (before nodes channels) ⌝ }
+{
+    match network::check(n, nodes, channels) {
+        Checked::Sizes => Answer::Refused(Refusal::Sizes),
+        Checked::Fault(a, b) => Answer::Refused(Refusal::Fault(a, b)),
+        Checked::Sound => events::down_named(n, u, v, nodes, channels),
+    }
+}
+
+// The first message of channel v to u is received, at u.
+pub fn receive(n: u32, v: u32, u: u32, nodes: &mut [u32], channels: &mut [u32]) -> Answer
+    ensures { λ r. ⌜ outcome (said r) (after nodes channels) ≡ stepOn n (receive v u) (before nodes channels) ⌝ }
+{
+    match network::check(n, nodes, channels) {
+        Checked::Sizes => Answer::Refused(Refusal::Sizes),
+        Checked::Fault(a, b) => Answer::Refused(Refusal::Fault(a, b)),
+        Checked::Sound => events::receive_named(n, v, u, nodes, channels),
+    }
+}
