@@ -6,6 +6,7 @@ pub mod Committed
 pub mod FinishLaws
 pub mod Finished
 pub mod CallerLaws
+pub mod PassingLaws
 pub mod RunLaws
 pub mod StepLaws
 pub mod EventLaws

@@ -49,11 +49,11 @@ width-one n m e = go (ltb n m) (ltb m n) refl refl
 
 module _ (n : ℕ) (low : 1 ≤ n) (few : n ≤ 16) (s : State) (good : Good n s) where
   fits : Storable n (s .network)
-  fits = storable n (s .network) (good .inv) (good .fits)
+  fits = storable n (s .network) (good .fits)
 
   own-call : (e : Event) → stepOn n e (tablesOf n (s .network)) ≡ outcome (answer n (s .network) e) (tablesOf n (next n (s .network) e))
   unfolding stepOn stepChecked stepAt
-  own-call e = rw (sound-check n (s .network) fits (sound-holds n (s .network) (good .inv) (good .fits)) low few, load-back n (s .network) fits)
+  own-call e = rw (sound-check n (s .network) fits (sound-holds n (s .network) (good .fits)) low few, load-back n (s .network) fits)
 
   not-sized : (m : ℕ) → (m ≡ n → ⊥) → sized m (tablesOf n (s .network)) ≡ false
   unfolding sized
@@ -91,7 +91,7 @@ pub record SameRun (n : ℕ) (s : State) (cs : List EventCall) : Type 0 where
 same-run : (n : ℕ) → 1 ≤ n → n ≤ 16 → (s : State) → Good n s → (cs : List EventCall) → SameRun n s cs
 unfolding saidByTables tablesAfter saidByMeaning stateAfter
 same-run n low few s g [] =
-    record { answers-are = refl; tables-are = refl; network-is = load-back n (s .network) (storable n (s .network) (g .inv) (g .fits)); good = g }
+    record { answers-are = refl; tables-are = refl; network-is = load-back n (s .network) (storable n (s .network) (g .fits)); good = g }
 same-run n low few s g (c ∷ cs) =
     let one = one-call n low few s g c in
     let more = same-run n low few (called n s c) (call-good n low few s g c) cs in

@@ -11,17 +11,18 @@ use lib.IntN.{ℤ, pos}
 use lib.ListN.{getD, length, take, drop, replicate, length-replicate}
 use lib.Seq.{drop-at, drop-append-add, drop-append-seam, drop-drop}
 use borrow.Author.Tests.{eq-eqb, ne-eqb, eqb-true, leb-true, le-leb}
-use Rattle.height.specs.Height.{heightKey, levelKey, pairKey, zeroHeight}
+use Rattle.height.specs.Height.{heightKey, zeroHeight}
 use Rattle.height.specs.Order.{same}
 use Rattle.height.specs.Words.{heightWords, deltaWord}
 use Rattle.height.specs.declared.Height.{Height}
-use Rattle.height.proofs.OrderLaws.{clash, same-is}
+use Rattle.height.proofs.OrderLaws.{clash}
 use Rattle.nodeset.specs.NodeSet.{member, setOf, within}
 use Rattle.nodeset.proofs.Members.{member-setOf, setOf-lt, lt-within}
 use Rattle.protocol.specs.Component.{Node}
 use Rattle.protocol.specs.Functions.{every, all}
 use Rattle.protocol.specs.Holds.{heightHolds, messageHolds, notInBoth, setsHold, isEmpty, ownHolds, viewHolds, channelHolds, placeHolds, nodeHolds, sound}
 use Rattle.protocol.specs.Network.{Message, Network, upTo, capacity}
+use Rattle.protocol.proofs.Ranges.{zero-height}
 use Rattle.protocol.proofs.TestsLaws.{Choice, yes!, no!, choice, equal?, and-left, and-right, and-both, every-at, every-all}
 use Rattle.tables.specs.Cell.{count, queue, messageWords, placeWords, cellWords, allZero}
 use Rattle.tables.specs.Load.{load, tablesOf}
@@ -62,25 +63,7 @@ unfolding cellWords
 unused-zero ms l =
     ap allZero (drop-append-add (length ms ∷ []) (placeWords 8 ms) (length ms * 8)) ∙ rest-zero 8 ms l
 
--- ---- a view that equals the zero height by its key is the zero height
-
-zero-height : (h : Height) → same (heightKey h) (heightKey zeroHeight) ≡ true → h ≡ zeroHeight
-unfolding heightKey levelKey pairKey
-zero-height h e =
-    let k : heightKey h ≡ heightKey zeroHeight = same-is (heightKey h) (heightKey zeroHeight) refl e in
-    let tau : h .level .tau .0 ≡ 0 = cc in
-    let oid : h .level .oid ≡ 0 = cc in
-    let r : h .level .r ≡ 0 = cc in
-    let delta : h .delta ≡ pos 0 = cc in
-    let nlts : h .pair .nlts .0 ≡ pos 0 = cc in
-    let lid : h .pair .lid ≡ 0 = cc in
-    let id : h .id ≡ 0 = cc in
-    λ i. record {
-      level = record { tau = record { 0 = tau i }; oid = oid i; r = r i };
-      delta = delta i;
-      pair = record { nlts = record { 0 = nlts i }; lid = lid i };
-      id = id i;
-    }
+-- ---- the places
 
 module _ (n : ℕ) (p : Network) (ok : Storable n p) (u : ℕ) (a : Node n u) where
   row : List ℕ

@@ -13,7 +13,8 @@ use Rattle.protocol.proofs.Accepted.{Accepted, accepted}
 use Rattle.protocol.proofs.HistoryLaws.{event-told}
 use Rattle.protocol.proofs.Invariant.{Inv}
 use Rattle.protocol.proofs.Kept.{step-keeps, fresh-inv}
-use Rattle.protocol.proofs.Soundness.{Fits, step-fits, fresh-fits}
+use Rattle.protocol.proofs.Soundness.{Fits, fresh-fits}
+use Rattle.protocol.proofs.StepFits.{step-fits}
 use Rattle.protocol.proofs.TestsLaws.{Choice, yes!, no!, choice}
 
 pub record Good (n : ℕ) (s : State) : Type 0 where
@@ -41,8 +42,8 @@ good-advance n s e g = go (choice (accepts n (s .network) e))
         let ok = accepts-accepted n p e i in
         rw i (record {
           inv = step-keeps n p e (g .inv) ok;
-          fits = step-fits n p e (g .inv) (g .fits) ok;
-          told = event-told n p (s .history) e (g .inv) (g .fits) i ok (g .told);
+          fits = step-fits n p e (g .fits) ok;
+          told = event-told n p (s .history) e (g .fits) i ok (g .told);
         })
     go (no! i) = rw i g
 

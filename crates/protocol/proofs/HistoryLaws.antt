@@ -1,5 +1,5 @@
 -- Up and messages waiting by the history agree with the network, event by event.
--- Assumes that the network keeps the invariant and is within the ranges.
+-- Assumes that the network is sound, by facts (Soundness.antt).
 use Prim.Native.Nat.{ℕ, _+_}
 use native.Mathlib.Omega.{arith}
 use mathlib.Core.Bool.{Bool, true, false, cond, _&&_, _||_, or-true, and-false}
@@ -21,7 +21,6 @@ use Rattle.protocol.specs.Step.{Event, up, down, receive, home, Local, c
 use Rattle.protocol.specs.Step.{localIgnored, localTaken, localReceipt, local, cleared, commit, step}
 use Rattle.protocol.proofs.Accepted.{Accepted}
 use Rattle.protocol.proofs.Channels.{length-post, cleared-down, cleared-receipt, cleared-off}
-use Rattle.protocol.proofs.Invariant.{Inv}
 use Rattle.protocol.proofs.Kept.{down-silent}
 use Rattle.protocol.proofs.RuleLaws.{byCases}
 use Rattle.protocol.proofs.SentSet.{sent-member, answer-sent}
@@ -111,10 +110,10 @@ cleared-count n p e ok u v h = go (choice (isReceipt e u v))
     go (yes! r) = rw (r, cleared-receipt p e u v r) (tail-count (p .channel u v) (receipt-some n p e ok u v r))
     go (no! r) = rw (r, cleared-off p e u v h r) (omega arith)
 
-pub event-told : (n : ℕ) (p : Network) (h : History) (e : Event) → Inv n p → Fits n p → accepts n p e ≡ true → Accepted n p e
+pub event-told : (n : ℕ) (p : Network) (h : History) (e : Event) → Fits n p → accepts n p e ≡ true → Accepted n p e
     → Told h p → Told (entry n p e ∷ h) (step n p e)
 unfolding step
-event-told n p h e inv fits zero! ok told = record { ups = ups; counts = counts }
+event-told n p h e fits zero! ok told = record { ups = ups; counts = counts }
   where
     l : Local
     l = local n p e
@@ -123,7 +122,7 @@ event-told n p h e inv fits zero! ok told = record { ups = ups; counts = counts 
     after = commit p (home e) l (cleared p e)
 
     sending : (u v : ℕ) → isSending (entry n p e) u v ≡ (eqb u (home e) && l .sent v)
-    sending u v = rw (answer-sent n p e zero!, sent-member n p e inv fits ok v)
+    sending u v = rw (answer-sent n p e zero!, sent-member n p e fits ok v)
 
     ups : (u v : ℕ) → turned e u v (upIn h u v) ≡ upTo after u v
     ups u v = go (equal? u (home e))

@@ -1,7 +1,6 @@
--- A network passes every test of Holds.antt and of Times.antt.
--- Assumes that it keeps the invariant and is within the ranges.
-use Prim.Native.Nat.{ℕ, _≤_}
-use native.Mathlib.Omega.{arith}
+-- A network passes every test of Holds.antt (`sound-holds`) and of Times.antt (`timely-holds`).
+-- Assumes for the first that it is sound, by facts (Soundness.antt), for the second that it keeps the invariant.
+use Prim.Native.Nat.{ℕ}
 use mathlib.Core.Bool.{true, not, cond, _&&_, _||_, and-false}
 use mathlib.Core.List.{List, [], _∷_}
 use mathlib.Core.Logic.{inl, inr}
@@ -13,7 +12,7 @@ use Rattle.height.specs.Clock.{lastTime}
 use Rattle.height.specs.Height.{heightKey, zeroHeight}
 use Rattle.height.specs.Order.{same}
 use Rattle.height.specs.declared.Height.{Height}
-use Rattle.height.proofs.OrderLaws.{clash, same-refl}
+use Rattle.height.proofs.OrderLaws.{same-refl}
 use Rattle.protocol.specs.Component.{Node}
 use Rattle.protocol.specs.Functions.{all}
 use Rattle.protocol.specs.Holds.{heightHolds, messageHolds, notInBoth, setsHold, isEmpty, ownHolds}
@@ -23,17 +22,17 @@ use Rattle.protocol.specs.Times.{timesWithin, messageTimely, pairTimely,
 use Rattle.protocol.proofs.Invariant.{AllSound, some, Inv}
 use Rattle.protocol.proofs.Ranges.{negated-le, height-holds}
 use Rattle.protocol.proofs.RuleLaws.{Bounded}
-use Rattle.protocol.proofs.Soundness.{AllFit, fcons, Fits}
+use Rattle.protocol.proofs.Soundness.{AllFit, fcons, Fits, diagonal}
 use Rattle.protocol.proofs.TestsLaws.{Choice, yes!, no!, choice, SameOrNot, equal?, and-both, every-all}
 
 -- ---- messages
 
-messages-hold : (n u c : ℕ) → c ≤ lastTime → (ms : List Message) → AllFit n u ms → AllSound c u ms → all (messageHolds n u) ms ≡ true
+messages-hold : (n u : ℕ) (ms : List Message) → AllFit n u ms → all (messageHolds n u) ms ≡ true
 unfolding all messageHolds
-messages-hold n u c l [] fit sound = refl
-messages-hold n u c l (m ∷ ms) (fcons f fit) (some s sound) =
-    and-both (and-both (height-holds n u (m .height) f) (le-leb (m .timestamp) lastTime (omega (arith, s .timestamp-le))))
-    (messages-hold n u c l ms fit sound)
+messages-hold n u [] fit = refl
+messages-hold n u (m ∷ ms) (fcons f fit) =
+    and-both (and-both (height-holds n u (m .height) (f .height)) (le-leb (m .timestamp) lastTime (f .timestamp-le)))
+    (messages-hold n u ms fit)
 
 within : (c : ℕ) (h : Height) → Bounded c h → timesWithin c h ≡ true
 unfolding timesWithin
@@ -51,15 +50,14 @@ empty-is ms e = rw e
 
 -- ---- places
 
-module _ (n : ℕ) (p : Network) (inv : Inv n p) (fits : Fits n p) where
+module _ (n : ℕ) (p : Network) (fits : Fits n p) where
   one-set : (u v : ℕ) → notInBoth (p .neighbors u) (p .forming u) v ≡ true
   unfolding notInBoth
-  one-set u v = go (choice (p .neighbors u v)) (equal? u v)
+  one-set u v = go (choice (p .neighbors u v))
     where
-      go : Choice (p .neighbors u v) → SameOrNot u v → not (p .neighbors u v && p .forming u v) ≡ true
-      go (no! i) d = rw i
-      go (yes! i) (inl e) = clash (rw (← e) at i) (inv .nodes u .selfN)
-      go (yes! i) (inr d) = rw (inv .links u v d .there .apart i, and-false)
+      go : Choice (p .neighbors u v) → not (p .neighbors u v && p .forming u v) ≡ true
+      go (no! i) = rw i
+      go (yes! i) = rw (fits .nodes u .apart v i, and-false)
 
   own-holds : (u : ℕ) → Node n u → ownHolds n p u ≡ true
   unfolding ownHolds setsHold
@@ -67,10 +65,10 @@ module _ (n : ℕ) (p : Network) (inv : Inv n p) (fits : Fits n p) where
       and-both
       (and-both
       (and-both (le-leb (p .clock u) lastTime (fits .nodes u .clock-le))
-      (and-both (and-both (every-all n (notInBoth (p .neighbors u) (p .forming u)) (λ v l k. one-set u v)) (rw (inv .nodes u .selfN)))
-      (rw (inv .nodes u .selfF))))
+      (and-both (and-both (every-all n (notInBoth (p .neighbors u) (p .forming u)) (λ v l k. one-set u v)) (rw (fits .nodes u .selfN)))
+      (rw (fits .nodes u .selfF))))
       (height-holds n u (p .height u u) (fits .nodes u .own node)))
-      (empty-is (p .channel u u) (fits .diagonal u))
+      (empty-is (p .channel u u) (diagonal n p fits u))
 
   view-holds : (u v : ℕ) → (u ≡ v → ⊥) → viewHolds n p u v ≡ true
   unfolding viewHolds
@@ -81,17 +79,17 @@ module _ (n : ℕ) (p : Network) (inv : Inv n p) (fits : Fits n p) where
       go (yes! i) = rw i (height-holds n v (p .height u v) (fits .nodes u .views v i))
       go (no! i) = rw (i, fits .nodes u .blank v (λ q. d (sym q)) i) (same-refl (heightKey zeroHeight))
 
-  channel-holds : (u v : ℕ) → (u ≡ v → ⊥) → channelHolds n p u v ≡ true
+  channel-holds : (u v : ℕ) → channelHolds n p u v ≡ true
   unfolding channelHolds
-  channel-holds u v d =
+  channel-holds u v =
       and-both
       (and-both (le-leb (length (p .channel u v)) capacity (fits .lengths u v))
-      (messages-hold n u (p .clock u) (fits .nodes u .clock-le) (p .channel u v) (fits .messages u v) (inv .posted u v)))
+      (messages-hold n u (p .channel u v) (fits .messages u v)))
       (idle (choice (upTo p u v)))
     where
       idle : Choice (upTo p u v) → (upTo p u v || isEmpty (p .channel u v)) ≡ true
       idle (yes! i) = rw i
-      idle (no! i) = rw i (empty-is (p .channel u v) (inv .links u v d .there .idle i))
+      idle (no! i) = rw i (empty-is (p .channel u v) (fits .idle u v i))
 
   place-holds : (u v : ℕ) → Node n u → placeHolds n p u v ≡ true
   unfolding placeHolds
@@ -99,16 +97,16 @@ module _ (n : ℕ) (p : Network) (inv : Inv n p) (fits : Fits n p) where
     where
       go : SameOrNot u v → cond (eqb u v) (ownHolds n p u) (viewHolds n p u v && channelHolds n p u v) ≡ true
       go (inl e) = rw (eq-eqb u v e) (own-holds u node)
-      go (inr d) = rw (ne-eqb u v d) (and-both (view-holds u v d) (channel-holds u v d))
+      go (inr d) = rw (ne-eqb u v d) (and-both (view-holds u v d) (channel-holds u v))
 
   pub sound-holds : sound n p ≡ true
   unfolding sound nodeHolds
   sound-holds =
       every-all n (nodeHolds n p) (λ u l k. every-all n (placeHolds n p u) (λ v i j. place-holds u v (record { low = l; high = k })))
 
-  pub timely-holds : timely n p ≡ true
-  unfolding timely nodeTimely pairTimely
-  timely-holds =
-      every-all n (nodeTimely n p) (λ u l k. every-all n (pairTimely p u)
-      (λ v i j. and-both (within (p .clock u) (p .height u v) (inv .nodes u .times v))
-      (messages-timely u (p .clock u) (p .channel u v) (inv .posted u v))))
+pub timely-holds : (n : ℕ) (p : Network) → Inv n p → Fits n p → timely n p ≡ true
+unfolding timely nodeTimely pairTimely
+timely-holds n p inv fits =
+    every-all n (nodeTimely n p) (λ u l k. every-all n (pairTimely p u)
+    (λ v i j. and-both (within (p .clock u) (p .height u v) (inv .nodes u .times v))
+    (messages-timely u (p .clock u) (p .channel u v) (inv .posted u v))))

@@ -15,6 +15,7 @@ use Rattle.protocol.specs.Network.{Message, Network, upTo, own}
 use Rattle.protocol.proofs.Channels.{no-length}
 use Rattle.protocol.proofs.Good.{Good}
 use Rattle.protocol.proofs.Quiescence.{held, one-leader}
+use Rattle.protocol.proofs.Soundness.{diagonal}
 use Rattle.protocol.proofs.TestsLaws.{SameOrNot, equal?, and-left, and-right, every-at, every-all}
 
 pub quiet-leader : (n : ℕ) (s : State) → Good n s → Quiescent n (upIn (s .history)) (waiting (s .history))
@@ -81,7 +82,7 @@ module _ (n : ℕ) (s : State) (g : Good n s) where
       go u v (record { low = l; high = k }) (record { low = i; high = j }) (equal? u v)))
     where
       go : (u v : ℕ) → Node n u → Node n v → SameOrNot u v → pairQuiet p u v ≡ true
-      go u v a b (inl e) = rw (← e, g .fits .diagonal u) (beq-refl (upTo p u u))
+      go u v a b (inl e) = rw (← e, diagonal n p (g .fits) u) (beq-refl (upTo p u u))
       go u v a b (inr d) =
           let t : Two n u v = record { one = a; other = b; differ = d } in
           let none : p .channel u v ≡ [] = no-length (p .channel u v) (omega (arith, g .told .counts u v, q .empty u v t)) in

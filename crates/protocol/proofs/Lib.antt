@@ -1,5 +1,5 @@
 -- Laws and theorems about the meaning; a file uses only those above it. Each says at its top what it shows and what it assumes.
--- Said, Locality, Leaders, Runs, Cases and Theorems hold the results, the others lead to them.
+-- Said, SoundStep, Locality, Leaders, Runs, Cases and Theorems hold the results, the others lead to them.
 pub mod Said
 pub mod TestsLaws
 pub mod RuleLaws
@@ -10,6 +10,7 @@ pub mod Ranges
 pub mod Channels
 pub mod Kept
 pub mod Soundness
+pub mod StepFits
 pub mod Restrict
 pub mod SentSet
 pub mod HistoryLaws
@@ -17,6 +18,7 @@ pub mod Holding
 pub mod CountLaws
 pub mod Quiescence
 pub mod Good
+pub mod SoundStep
 pub mod Locality
 pub mod Leaders
 pub mod Runs

@@ -1,4 +1,4 @@
--- The ranges of a height as facts: they pass the tests of Holds.antt, and the height that a rule leaves is within them.
+-- The ranges of a height as facts: exactly what passes the tests of Holds.antt, and the height that a rule leaves is within them.
 -- Assumes that what the rule starts from is within the ranges, as parameters.
 use Prim.Native.Nat.{ℕ, zero, suc, _≤_}
 use native.Mathlib.Omega.{arith}
@@ -6,17 +6,17 @@ use mathlib.Core.Bool.{Bool, true, false, not, cond, _&&_, _||_}
 use mathlib.Core.List.{List, [], _∷_}
 use mathlib.Core.Logic.{inl, inr}
 use mathlib.Core.Path.{_≡_, refl}
-use lib.Dec.{eqb}
+use lib.Dec.{eqb, leb}
 use lib.IntN.{ℤ, pos, negsuc, negℤ, sucℤ, predℤ}
 use lib.Signed.{ltZ, leZ}
-use borrow.Author.Tests.{eq-eqb, ne-eqb, leb-true, ltb-false, le-leb, le-ltb}
+use borrow.Author.Tests.{eqb-true, eq-eqb, ne-eqb, leb-true, ltb-false, le-leb, le-ltb}
 use Rattle.height.specs.Clock.{lastTime}
-use Rattle.height.specs.Height.{levelKey, zeroLevel}
+use Rattle.height.specs.Height.{levelKey, pairKey, heightKey, zeroLevel, zeroHeight}
 use Rattle.height.specs.Order.{before, same}
 use Rattle.height.specs.declared.Height.{Height}
 use Rattle.height.specs.declared.LeaderPair.{LeaderPair}
 use Rattle.height.specs.declared.ReferenceLevel.{ReferenceLevel}
-use Rattle.height.proofs.OrderLaws.{clash}
+use Rattle.height.proofs.OrderLaws.{clash, same-is}
 use Rattle.protocol.specs.Component.{Node}
 use Rattle.protocol.specs.Holds.{levelHolds, leastDelta, greatestDelta, deltaHolds, pairHolds, heightHolds}
 use Rattle.protocol.specs.Refusal.{tooDeep}
@@ -25,7 +25,7 @@ use Rattle.protocol.specs.Step.{heightAfter}
 use Rattle.protocol.specs.declared.Rule.{Rule}
 use Rattle.protocol.specs.declared.Rule.the-variants.{ElectSelf, StartNewRefLevel}
 use Rattle.protocol.proofs.RuleLaws.{byCases, Verdict, isA, isR, isQ, isF, isE, isS, isP, downCases}
-use Rattle.protocol.proofs.TestsLaws.{SameOrNot, equal?, and-left}
+use Rattle.protocol.proofs.TestsLaws.{SameOrNot, equal?, and-left, and-right}
 
 pub record LevelFits (n : ℕ) (l : ReferenceLevel) : Type 0 where
   pub tau-le : l .tau .0 ≤ lastTime
@@ -105,6 +105,124 @@ height-holds n k h f =
       le-leb 1 (h .pair .lid) (q .lid-low),
       le-leb (h .pair .lid) n (q .lid-high),
     ) (eq-eqb (h .id) k (f .id))
+
+-- ---- a height that passes the tests is such a height
+
+ltZ-leZ : (a b : ℤ) → leZ a b ≡ true → ltZ b a ≡ false
+ltZ-leZ (pos a) (pos b) e = le-ltb b a (leb-true a b e)
+ltZ-leZ (pos a) (negsuc b) e = clash e refl
+ltZ-leZ (negsuc a) (pos b) e = refl
+ltZ-leZ (negsuc a) (negsuc b) e = le-ltb a b (leb-true b a e)
+
+-- a: no originator, b: no search time, c: bit 0
+both-zero : (a b c : Bool) → (a && (b && c) || not a && not b) ≡ true → a ≡ true → (b ≡ true) × (c ≡ true)
+both-zero true true true e h = (refl, refl)
+both-zero true true false e h = clash e refl
+both-zero true false c e h = clash e refl
+both-zero false b c e h = clash h refl
+
+no-search : (a b c : Bool) → (a && (b && c) || not a && not b) ≡ true → b ≡ true → a ≡ true
+no-search true b c e h = refl
+no-search false true c e h = clash e refl
+no-search false false c e h = clash h refl
+
+level-fits : (n : ℕ) (l : ReferenceLevel) → levelHolds n l ≡ true → LevelFits n l
+unfolding levelHolds
+level-fits n l e =
+    let abc = and-left (x && y && z) zeros e in
+    let ab = and-left (x && y) z abc in
+    let d = and-right (x && y && z) zeros e in
+    record {
+      tau-le = leb-true (l .tau .0) lastTime (and-left x y ab);
+      oid-le = leb-true (l .oid) n (and-right x y ab);
+      r-le = leb-true (l .r) 1 (and-right (x && y) z abc);
+      unstarted = λ t. eqb-true (l .oid) 0 (no-search (eqb (l .oid) 0) (eqb (l .tau .0) 0) (eqb (l .r) 0) d (eq-eqb (l .tau .0) 0 t));
+      zeros = λ o.
+          let q = both-zero (eqb (l .oid) 0) (eqb (l .tau .0) 0) (eqb (l .r) 0) d (eq-eqb (l .oid) 0 o) in
+          (eqb-true (l .tau .0) 0 (q .0), eqb-true (l .r) 0 (q .1));
+    }
+  where
+    x : Bool
+    x = leb (l .tau .0) lastTime
+
+    y : Bool
+    y = leb (l .oid) n
+
+    z : Bool
+    z = leb (l .r) 1
+
+    zeros : Bool
+    zeros = eqb (l .oid) 0 && (eqb (l .tau .0) 0 && eqb (l .r) 0) || not (eqb (l .oid) 0) && not (eqb (l .tau .0) 0)
+
+delta-fits : (d : ℤ) → deltaHolds d ≡ true → DeltaFits d
+unfolding deltaHolds
+delta-fits d e = record {
+  low = ltZ-leZ leastDelta d (and-left (leZ leastDelta d) (leZ d greatestDelta) e);
+  high = ltZ-leZ d greatestDelta (and-right (leZ leastDelta d) (leZ d greatestDelta) e);
+}
+
+pair-fits : (n : ℕ) (q : LeaderPair) → pairHolds n q ≡ true → PairFits n q
+unfolding pairHolds
+pair-fits n q e =
+    let abc = and-left (x && y && z) (leb (q .lid) n) e in
+    let ab = and-left (x && y) z abc in
+    let t = negation lastTime (q .nlts .0) (and-left x y ab) (and-right x y ab) in
+    record {
+      election = t .size;
+      nlts-is = t .is;
+      election-le = t .size-le;
+      lid-low = leb-true 1 (q .lid) (and-right (x && y) z abc);
+      lid-high = leb-true (q .lid) n (and-right (x && y && z) (leb (q .lid) n) e);
+    }
+  where
+    x : Bool
+    x = leZ (negℤ (pos lastTime)) (q .nlts .0)
+
+    y : Bool
+    y = leZ (q .nlts .0) (pos 0)
+
+    z : Bool
+    z = leb 1 (q .lid)
+
+pub height-fits : (n k : ℕ) (h : Height) → heightHolds n k h ≡ true → HeightFits n k h
+unfolding heightHolds
+height-fits n k h e =
+    let abc = and-left (x && y && z) (eqb (h .id) k) e in
+    let ab = and-left (x && y) z abc in
+    record {
+      level = level-fits n (h .level) (and-left x y ab);
+      delta = delta-fits (h .delta) (and-right x y ab);
+      pair = pair-fits n (h .pair) (and-right (x && y) z abc);
+      id = eqb-true (h .id) k (and-right (x && y && z) (eqb (h .id) k) e);
+    }
+  where
+    x : Bool
+    x = levelHolds n (h .level)
+
+    y : Bool
+    y = deltaHolds (h .delta)
+
+    z : Bool
+    z = pairHolds n (h .pair)
+
+-- the zero height is known by its key
+pub zero-height : (h : Height) → same (heightKey h) (heightKey zeroHeight) ≡ true → h ≡ zeroHeight
+unfolding heightKey levelKey pairKey
+zero-height h e =
+    let k : heightKey h ≡ heightKey zeroHeight = same-is (heightKey h) (heightKey zeroHeight) refl e in
+    let tau : h .level .tau .0 ≡ 0 = cc in
+    let oid : h .level .oid ≡ 0 = cc in
+    let r : h .level .r ≡ 0 = cc in
+    let delta : h .delta ≡ pos 0 = cc in
+    let nlts : h .pair .nlts .0 ≡ pos 0 = cc in
+    let lid : h .pair .lid ≡ 0 = cc in
+    let id : h .id ≡ 0 = cc in
+    λ i. record {
+      level = record { tau = record { 0 = tau i }; oid = oid i; r = r i };
+      delta = delta i;
+      pair = record { nlts = record { 0 = nlts i }; lid = lid i };
+      id = id i;
+    }
 
 -- ---- the zero level, the largest level, the smallest depth
 

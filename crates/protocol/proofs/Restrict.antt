@@ -1,7 +1,7 @@
--- A network within the ranges is as fresh outside 1 to n: its numbers at the nodes determine it.
--- Assumes that the network keeps the invariant and is within the ranges.
+-- A sound network is as fresh outside 1 to n: its numbers at the nodes determine it.
+-- Assumes that the network is sound, by facts (Soundness.antt).
 use Prim.Native.Nat.{ℕ}
-use mathlib.Core.Bool.{true, false}
+use mathlib.Core.Bool.{false}
 use mathlib.Core.List.{[]}
 use mathlib.Core.Logic.{inl, inr}
 use mathlib.Core.Path.{_≡_, sym, fun-ext}
@@ -9,12 +9,11 @@ use borrow.Author.Tests.{le-leb, ne-eqb}
 use Rattle.height.proofs.OrderLaws.{clash, not-true-is-false}
 use Rattle.protocol.specs.Component.{Node}
 use Rattle.protocol.specs.Network.{Network, isNode, fresh, atNodes, atPairs, restrict}
-use Rattle.protocol.proofs.Invariant.{Inv}
 use Rattle.protocol.proofs.Soundness.{Fits}
 pub use Rattle.protocol.proofs.TestsLaws.{is-node}
 use Rattle.protocol.proofs.TestsLaws.{Choice, yes!, no!, choice, SameOrNot, equal?}
 
-no-node : (n u : ℕ) → isNode n u ≡ false → Node n u → ⊥
+pub no-node : (n u : ℕ) → isNode n u ≡ false → Node n u → ⊥
 no-node n u e s = clash (rw (le-leb 1 u (s .low), le-leb u n (s .high))) e
 
 pub pairs-is : {A : Type 0} (n : ℕ) (f g : ℕ → ℕ → A)
@@ -35,9 +34,9 @@ nodes-is n f g out = fun-ext λ u. go u (choice (isNode n u))
     go u (no! e) = rw e (out u (no-node n u e))
     go u (yes! e) = rw e
 
-pub restrict-is : (n : ℕ) (p : Network) → Inv n p → Fits n p → restrict n p ≡ p
+pub restrict-is : (n : ℕ) (p : Network) → Fits n p → restrict n p ≡ p
 unfolding restrict
-restrict-is n p inv fits = λ i. record {
+restrict-is n p fits = λ i. record {
   clock = clocks i;
   neighbors = links i;
   forming = forms i;
@@ -80,11 +79,10 @@ restrict-is n p inv fits = λ i. record {
     heights : atPairs n (p .height) (fresh .height) ≡ p .height
     heights = pairs-is n (p .height) (fresh .height) (λ u v d. outU u v d (equal? u v)) (λ u v s d. outV u v s d (equal? u v))
 
-    still : (u v : ℕ) → p .neighbors u v ≡ false → p .forming u v ≡ false → SameOrNot u v → [] ≡ p .channel u v
-    still u v a b (inl e) = rw (← e) (sym (fits .diagonal u))
-    still u v a b (inr d) = sym (inv .links u v d .there .idle (rw (a, b)))
+    still : (u v : ℕ) → p .neighbors u v ≡ false → p .forming u v ≡ false → [] ≡ p .channel u v
+    still u v a b = sym (fits .idle u v (rw (a, b)))
 
     channels : atPairs n (p .channel) (fresh .channel) ≡ p .channel
     channels =
-        pairs-is n (p .channel) (fresh .channel) (λ u v d. still u v (off u d .1 v) (off u d .2 v) (equal? u v))
-        (λ u v s d. still u v (notN u v d) (notF u v d) (equal? u v))
+        pairs-is n (p .channel) (fresh .channel) (λ u v d. still u v (off u d .1 v) (off u d .2 v))
+        (λ u v s d. still u v (notN u v d) (notF u v d))

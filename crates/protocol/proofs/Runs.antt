@@ -78,7 +78,7 @@ module _ (write : ℕ → Network → List ℕ) (read : ℕ → List ℕ → Rea
   read-saved w b s sane e =
       let f = found b (w .saves) (sane .kept) s e in
       ap (read n) (f .bytes-are)
-      ∙ back (s .network) (sound-holds n (s .network) (f .good .inv) (f .good .fits)) (restrict-is n (s .network) (f .good .inv) (f .good .fits))
+      ∙ back (s .network) (sound-holds n (s .network) (f .good .fits)) (restrict-is n (s .network) (f .good .fits))
 
   act-sane : (w : RunState) (c : Call) → Sane w → Fair write read n w c → Sane (act write read n w c)
   act-sane w c s (fairEvent m e) =

@@ -1,5 +1,5 @@
 -- The set in an answer holds exactly the nodes sent to: an accepted event sends to nodes 1 to n alone.
--- Assumes that the network keeps the invariant and is within the ranges.
+-- Assumes that the network is sound, by facts (Soundness.antt).
 use Prim.Native.Nat.{ℕ}
 use native.Mathlib.Omega.{arith}
 use mathlib.Core.Bool.{true, _||_}
@@ -16,10 +16,10 @@ use Rattle.protocol.specs.Refusal.{accepts, answer}
 use Rattle.protocol.specs.Step.{Event, up, down, receive, home, peer, sends, Local, carried, localUp}
 use Rattle.protocol.specs.Step.{localDown, localIgnored, localTaken, localReceipt, local, commit, step}
 use Rattle.protocol.proofs.Accepted.{Accepted, peer-node}
-use Rattle.protocol.proofs.Invariant.{Inv}
 use Rattle.protocol.proofs.RuleLaws.{byCases}
 use Rattle.protocol.proofs.Said.{rule-said}
-use Rattle.protocol.proofs.Soundness.{Fits, sends-in, either, step-fits}
+use Rattle.protocol.proofs.Soundness.{Fits, sends-in, either}
+use Rattle.protocol.proofs.StepFits.{step-fits}
 use Rattle.protocol.proofs.TestsLaws.{update-at}
 
 -- every event sends by its rule
@@ -37,13 +37,13 @@ local-sent n p (receive v u) w = go (p .channel v u)
     go (m ∷ ms) =
         byCases (λ l. SentBy v l w) (upTo p u v) (localTaken n p u v m) (localIgnored n p u v (m .timestamp)) (λ i. refl) (λ i. refl)
 
-module _ (n : ℕ) (p : Network) (e : Event) (inv : Inv n p) (fits : Fits n p) (ok : Accepted n p e) where
+module _ (n : ℕ) (p : Network) (e : Event) (fits : Fits n p) (ok : Accepted n p e) where
   sent-node : (w : ℕ) → local n p e .sent w ≡ true → Node n w
   unfolding step commit
   sent-node w s = go (sends-in (peer e) (local n p e .rule) w _ (sym (local-sent n p e w) ∙ s))
     where
       after : Fits n (step n p e)
-      after = step-fits n p e inv fits ok
+      after = step-fits n p e fits ok
 
       inN : local n p e .neighbors w ≡ true → Node n w
       inN i = after .nodes (home e) .inN w (rw (update-at (p .neighbors) (home e) (local n p e .neighbors)) i)

@@ -38,8 +38,8 @@ grown-steady n es =
     let g = good-grown n es in
     let p = grown n es .network in
     record {
-      breaks-no-rule = sound-holds n p (g .inv) (g .fits);
-      nothing-beyond = restrict-is n p (g .inv) (g .fits);
+      breaks-no-rule = sound-holds n p (g .fits);
+      nothing-beyond = restrict-is n p (g .fits);
       times-make-sense = timely-holds n p (g .inv) (g .fits);
       no-sink = λ u. g .inv .nodes u .awake;
     }

@@ -22,7 +22,6 @@ use Rattle.protocol.specs.Component.{Node}
 use Rattle.protocol.specs.History.{State}
 use Rattle.protocol.specs.Network.{Message, Network, isNode, fresh, atNodes, atPairs, restrict}
 use Rattle.protocol.proofs.Good.{Good}
-use Rattle.protocol.proofs.Invariant.{Inv}
 use Rattle.protocol.proofs.Restrict.{restrict-is, is-node as node-is}
 use Rattle.protocol.proofs.Soundness.{Fits, Ranged, AllFit, fnil, fcons}
 use Rattle.protocol.proofs.TestsLaws.{Choice, yes!, no!, choice, equal?}
@@ -261,11 +260,11 @@ module _ (n : ℕ) (p : Network) (ok : Storable n p) where
 
 all-wordy : (n u : ℕ) (ms : List Message) → AllFit n u ms → AllWordy ms
 all-wordy n u ms fnil = wnil
-all-wordy n u ms (fcons {m = m} {ms = rest} f fs) = wcons (fits-wordy n u (m .height) f) (all-wordy n u rest fs)
+all-wordy n u ms (fcons {m = m} {ms = rest} f fs) = wcons (fits-wordy n u (m .height) (f .height)) (all-wordy n u rest fs)
 
-pub storable : (n : ℕ) (p : Network) → Inv n p → Fits n p → Storable n p
-storable n p inv fits = record {
-  inside = restrict-is n p inv fits;
+pub storable : (n : ℕ) (p : Network) → Fits n p → Storable n p
+storable n p fits = record {
+  inside = restrict-is n p fits;
   heights = λ u v a b. view u v a (equal? v u) (choice (p .neighbors u v));
   messages = λ u v a b. all-wordy n u (p .channel u v) (fits .messages u v);
   short = λ u v a b. fits .lengths u v;

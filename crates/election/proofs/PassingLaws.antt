@@ -1,0 +1,29 @@
+-- An accepted call leaves tables that pass the check, whatever sound tables it was handed.
+-- Assumes that every word is one of 32 bits (`Words`).
+use Prim.Native.Nat.{ℕ}
+use mathlib.Core.Path.{_≡_, ap, _∙_}
+use Rattle.network.specs.Check.{checked, checkOn}
+use Rattle.network.proofs.SoundLoads.{sound-loads, load-inside}
+use Rattle.network.proofs.SoundNetworks.{sound-check}
+use Rattle.network.proofs.SoundTables.{Words}
+use Rattle.protocol.specs.Refusal.{next}
+use Rattle.protocol.specs.Step.{Event}
+use Rattle.protocol.proofs.Holding.{sound-holds}
+use Rattle.protocol.proofs.Soundness.{Fits}
+use Rattle.protocol.proofs.SoundStep.{sound-fits, fits-next}
+use Rattle.tables.specs.Load.{load}
+use Rattle.tables.specs.Tables.{Tables}
+use Rattle.tables.proofs.Back.{storable}
+use Rattle.election.specs.StepOn.{stepOn}
+use Rattle.election.proofs.CallerLaws.{Carried, carried-out}
+
+module _ (n : ℕ) (e : Event) (t : Tables) (words : Words t) where
+  loaded-fits : Carried n e t words → Fits n (load n t)
+  loaded-fits c = sound-fits n (load n t) (load-inside n t (c .fit)) (sound-loads n t words (c .passes))
+
+  pub accepted-passes : stepOn n e t .said .number ≡ 0 → checkOn n (stepOn n e t .after) ≡ checked 0 0 0
+  accepted-passes zero! =
+      let c = carried-out n e t words zero! in
+      let fits = fits-next n (load n t) e (loaded-fits c) in
+      let q = next n (load n t) e in
+      ap (checkOn n) (c .after-is) ∙ sound-check n q (storable n q fits) (sound-holds n q fits) (c .fit .size .low) (c .fit .size .few)
