@@ -2,6 +2,7 @@
 use Prim.Native.Nat.{ℕ}
 use mathlib.Core.Bool.{Bool, cond, _||_}
 use mathlib.Core.List.{List}
+use lib.IntN.{pos}
 use Rattle.height.specs.Words.{Negated}
 use Rattle.height.specs.declared.Height.{Height}
 use Rattle.nodeset.specs.NodeSet.{member, setOf}
@@ -10,7 +11,8 @@ use Rattle.protocol.specs.Refusal.{tooDeep}
 use Rattle.protocol.specs.Step.{heightAfter, sends}
 use Rattle.protocol.specs.Component.{Node}
 use Rattle.protocol.specs.declared.Rule.{Rule}
-use Rattle.protocol.specs.declared.Rule.the-variants.{ChannelUp, ElectSelf, StartNewRefLevel, NoChange, Ignored, ReflectRefLevel, PropagateLargestRefLevel, AdoptLpIfPriority, Reply}
+use Rattle.protocol.specs.declared.Rule.the-variants.{ChannelUp, ElectSelf, StartNewRefLevel, NoChange, Ignored}
+use Rattle.protocol.specs.declared.Rule.the-variants.{ReflectRefLevel, PropagateLargestRefLevel, AdoptLpIfPriority, Reply}
 use Rattle.tables.specs.Row.{heightIn}
 use Rattle.decision.specs.declared.After.{After}
 use Rattle.decision.specs.declared.After.the-variants.{New, TooDeep}
@@ -23,6 +25,19 @@ seen row v view = update (heightIn row) v view
 unfoldable pub afterRule : ℕ → (ℕ → Bool) → (ℕ → Height) → ℕ → ℕ → ℕ → Rule → After
 afterRule n N row u v t rule =
     cond (tooDeep rule (heightAfter n N row u v t rule .delta)) TooDeep (New (heightAfter n N row u v t rule))
+
+-- rule S: a level of u's own that starts at t, and u's pair; rule F: the level of the view, reflected, and u's pair
+abbrev pub startedAt : ℕ → Height → ℕ → Height
+startedAt t own u = record { level = record { tau = record { 0 = t }; oid = u; r = 0 }; delta = pos 0; pair = own .pair; id = u }
+
+abbrev pub reflectedFrom : Height → Height → ℕ → Height
+reflectedFrom view own u =
+    record {
+      level = record { tau = record { 0 = view .level .tau .0 }; oid = view .level .oid; r = 1 };
+      delta = pos 0;
+      pair = own .pair;
+      id = u;
+    }
 
 -- the nodes that the rule sends to
 unfoldable pub sendsTo : ℕ → Rule → ℕ → ℕ → ℕ → Bool

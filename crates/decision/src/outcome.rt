@@ -2,7 +2,7 @@
 ghost use mathlib.Core.Path.{_≡_};
 ghost use mathlib.Core.Bool.{true, false};
 ghost use Prim.Native.Nat.{_≤_};
-ghost use lib.IntN.{ℤ, pos, sucℤ, predℤ};
+ghost use lib.IntN.{ℤ, sucℤ, predℤ};
 ghost use lib.ListN.{length};
 ghost use lib.Signed.{ltZ};
 ghost use Rattle.height.specs.Words.{Negated};
@@ -10,7 +10,7 @@ ghost use Rattle.nodeset.specs.NodeSet.{member, setOf};
 ghost use Rattle.protocol.specs.Component.{Node};
 ghost use Rattle.protocol.specs.Holds.{leastDelta, greatestDelta};
 ghost use Rattle.tables.specs.Tables.{width};
-ghost use Rattle.decision.specs.After.{seen, afterRule, sendsTo, NegatedAfter, AdoptsNode};
+ghost use Rattle.decision.specs.After.{seen, afterRule, startedAt, reflectedFrom, sendsTo, NegatedAfter, AdoptsNode};
 use super::After;
 use height::Height;
 use height::LeaderPair;
@@ -85,7 +85,7 @@ fn adopted(n: u32, set: u16, row: &[u32], v: u32, view: Height, u: u32, w: u32) 
 // Rule S: a level of u's own.
 fn started(n: u32, row: &[u32], v: u32, view: Height, u: u32, t: Time) -> Height
     requires { ⌜ (n ≤ 16) × Node n u × (length (now row) ≡ width n) × Negated (view .pair .nlts .0) ⌝ }
-    ensures { λ r. ⌜ (r ≡ record { level = record { tau = record { 0 = t .0 }; oid = u; r = 0 }; delta = pos 0; pair = seen (now (row .entry)) v view u .pair; id = u }) × Negated (r .pair .nlts .0) ⌝ }
+    ensures { λ r. ⌜ (r ≡ startedAt (t .0) (seen (now (row .entry)) v view u) u) × Negated (r .pair .nlts .0) ⌝ }
 {
     let own = super::sinks::height_of(n, row, v, view, u);
     let level = ReferenceLevel {
@@ -100,7 +100,7 @@ fn started(n: u32, row: &[u32], v: u32, view: Height, u: u32, t: Time) -> Height
 // Rule F: v's level, reflected.
 fn reflected(n: u32, row: &[u32], v: u32, view: Height, u: u32) -> Height
     requires { ⌜ (n ≤ 16) × Node n u × Node n v × (length (now row) ≡ width n) × Negated (view .pair .nlts .0) ⌝ }
-    ensures { λ r. ⌜ (r ≡ record { level = record { tau = record { 0 = seen (now (row .entry)) v view v .level .tau .0 }; oid = seen (now (row .entry)) v view v .level .oid; r = 1 }; delta = pos 0; pair = seen (now (row .entry)) v view u .pair; id = u }) × Negated (r .pair .nlts .0) ⌝ }
+    ensures { λ r. ⌜ (r ≡ reflectedFrom (seen (now (row .entry)) v view v) (seen (now (row .entry)) v view u) u) × Negated (r .pair .nlts .0) ⌝ }
 {
     let own = super::sinks::height_of(n, row, v, view, u);
     let searched = view.level;

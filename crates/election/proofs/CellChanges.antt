@@ -141,7 +141,8 @@ module _ (n : ℕ) (t : Tables) (u v : ℕ) (b : Between n t u v) where
         (λ y z c d e. ap queue (elsewhere y z c d e))
         (λ z d. at z d (choice (member s z)))
         (λ z o. rw (silent-out z o, cleared-out kind takes z o))
-        ∙ ap (λ (f : ℕ → ℕ → List Message). update f u (λ y. post (member s y) (stamped own clock) (cleared (load n t) (eventOf kind u v) u y))) (cleared-loads kind takes)
+        ∙ ap (λ (f : ℕ → ℕ → List Message). update f u (λ y. post (member s y) (stamped own clock) (cleared (load n t) (eventOf kind u v) u y)))
+        (cleared-loads kind takes)
       where
         at : (z : ℕ) → Node n z → Choice (member s z)
             → queue (channelOf n u z cs) ≡ post (member s z) (stamped own clock) (cleared (load n t) (eventOf kind u v) u z)

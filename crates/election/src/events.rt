@@ -185,8 +185,8 @@ fn hear(n: u32, v: u32, u: u32, nodes: &mut [u32], channels: &mut [u32]) -> Answ
 {
     let row = tables::rows::node(n, u, nodes);
     let cell = tables::rows::channel(n, v, u, channels);
-    let view = tables::cells::first_height(cell);
-    let stamp = tables::cells::first_timestamp(cell);
+    let view = tables::cells::nth_height(cell, 0);
+    let stamp = tables::cells::nth_timestamp(cell, 0);
     let clock = tables::rows::clock(row);
     let Moved::To(t) = clock.after(stamp) else {
         return Answer::Refused(Refusal::ClockEnd);

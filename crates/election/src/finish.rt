@@ -55,7 +55,8 @@ pub fn finish(
     channels: &mut [u32],
 ) -> Answer
     requires { ⌜ Chosen kind n (given nodes channels) u v neighbors forming rule × Negated (view .pair .nlts .0) × AdoptsNode n rule ⌝ }
-    ensures { λ r. ⌜ outcome (said r) (after nodes channels) ≡ finished n (eventOf kind u v) (localOf n (before nodes channels) u v (t .0) neighbors forming view rule) (before nodes channels) ⌝ }
+    ensures { λ r. ⌜ outcome (said r) (after nodes channels) ≡ finished n (eventOf kind u v)
+        (localOf n (before nodes channels) u v (t .0) neighbors forming view rule) (before nodes channels) ⌝ }
 {
     let row = tables::rows::node(n, u, nodes);
     let After::New(own) = decision::outcome::height_after(n, neighbors, row, v, view, u, t, rule)

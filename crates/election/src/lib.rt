@@ -8,9 +8,9 @@ use network::Checked;
 use protocol::Answer;
 use protocol::Refusal;
 
-pub mod events;
-pub mod finish;
-pub mod sending;
+mod events;
+mod finish;
+mod sending;
 
 // The kind of an event: what it does to a channel before it sends.
 pub enum Kind {

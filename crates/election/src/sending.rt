@@ -68,7 +68,8 @@ fn send(n: u32, u: u32, w: u32, h: Height, t: Time, channels: &mut [u32])
 
 // One message from u to every node of the set, lowest first.
 pub fn send_all(n: u32, u: u32, to: u16, h: Height, t: Time, channels: &mut [u32])
-    requires { ⌜ (n ≤ 16) × Node n u × (length (now channels) ≡ n * n * cellWidth) × (to < 2 ^ n) × (every n (roomFor n u to (now channels)) ≡ true) × Negated (h .pair .nlts .0) ⌝ }
+    requires { ⌜ (n ≤ 16) × Node n u × (length (now channels) ≡ n * n * cellWidth) × (to < 2 ^ n)
+        × (every n (roomFor n u to (now channels)) ≡ true) × Negated (h .pair .nlts .0) ⌝ }
     ensures { λ _. ⌜ CellsAre n (now (channels .exit)) (sentCells u to h (t .0) (cellsOf n (now (channels .entry)))) ⌝ }
 {
     let mut left = to;

@@ -6,9 +6,8 @@ use mathlib.Core.Bool.{true, false, _&&_, _||_}
 use mathlib.Core.List.{List}
 use mathlib.Core.Path.{_≡_, refl, sym, ap, _∙_}
 use lib.Dec.{eqb}
-use lib.ListN.{length, getD, take, drop, length-drop}
+use lib.ListN.{length, getD, take, drop}
 use lib.Pow.{field, mod-mod-pow}
-use lib.Seq.{take-all}
 use borrow.Author.Tests.{le-leb, lt-leb}
 use Rattle.height.specs.Clock.{lastTime}
 use Rattle.height.specs.Words.{heightAt}
@@ -67,21 +66,15 @@ module _ (n u : ℕ) (cell : List ℕ) (size : ℕ) where
 -- ---- a channel
 
 module _ (n u v : ℕ) (row cell : List ℕ) where
-  pub channel-full : 8 < count cell → false ≡ channelPlace n u v row cell
+  pub channel-full : (k : ℕ) → k ≡ count cell → 8 < k → false ≡ channelPlace n u v row cell
   unfolding channelPlace
-  channel-full l = rw (lt-leb (count cell) 8 l)
+  channel-full k e l = rw (← e, lt-leb k 8 l)
 
-  pub channel-test : count cell ≤ 8
-      → ((member (neighborsIn row) v || member (formingIn row) v || eqb (count cell) 0)
-      && all (messageHolds n u) (messagesAt (count cell) cell 1)
-      && allZero (take (length cell - (1 + count cell * 8)) (drop (1 + count cell * 8) cell)))
-      ≡ channelPlace n u v row cell
+  pub channel-test : (k : ℕ) → k ≡ count cell → k ≤ 8
+      → ((member (neighborsIn row) v || member (formingIn row) v || eqb k 0) && all (messageHolds n u) (messagesAt k cell 1)
+      && allZero (drop (1 + k * 8) cell)) ≡ channelPlace n u v row cell
   unfolding channelPlace queue
-  channel-test l =
-      let e : take (length cell - (1 + count cell * 8)) (drop (1 + count cell * 8) cell) ≡ drop (1 + count cell * 8) cell =
-      take-all (length cell - (1 + count cell * 8)) (drop (1 + count cell * 8) cell)
-      (omega (arith, length-drop (1 + count cell * 8) cell)) in
-      rw (le-leb (count cell) 8 l, e)
+  channel-test k e l = rw (← e, le-leb k 8 l)
 
 -- ---- a part of a slice
 

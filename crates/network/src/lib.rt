@@ -4,9 +4,9 @@ ghost use Rattle.tables.specs.Tables.{given, before, after, sized, Sized};
 ghost use Rattle.network.specs.Check.{saidCheck, checkOn};
 ghost use Rattle.network.specs.Fresh.{filled, freshOn};
 
-pub mod filling;
-pub mod heights;
-pub mod places;
+mod filling;
+mod heights;
+mod places;
 
 // What a check answers: nothing at fault (0), sizes (1), or the first pair at fault (2).
 pub enum Checked {

@@ -51,7 +51,7 @@ fn messages_hold(n: u32, u: u32, cell: &[u32], count: usize) -> bool
 {
     let mut k = 0;
     while k < count {
-        let h = height::words::load_height(cell, 1 + k * 8);
+        let h = tables::cells::nth_height(cell, k);
         if !super::heights::height_holds(n, u, h) {
             return false;
         }
@@ -65,15 +65,14 @@ fn channel_place(n: u32, u: u32, v: u32, row: &[u32], cell: &[u32]) -> bool
     requires { ⌜ (n ≤ 16) × Node n v × (length (now row) ≡ width n) × (length (now cell) ≡ cellWidth) ⌝ }
     ensures { λ r. ⌜ r ≡ channelPlace n u v (now (row .entry)) (now (cell .entry)) ⌝ }
 {
-    let waiting = cell[0];
+    let waiting = tables::cells::waiting(cell);
     if 8 < waiting {
         return false;
     }
     let count = waiting as usize;
-    let a = 1 + count * 8;
     let fits = is_member(row[1], v) | is_member(row[2], v) | (waiting == 0);
     let held = messages_hold(n, u, cell, count);
-    fits & held & tables::cells::all_zero(&cell[a..])
+    fits & held & tables::cells::is_unused_after(cell, count)
 }
 
 // The place of the pair u, v.

@@ -8,7 +8,8 @@ use Rattle.protocol.specs.declared.Answer.the-variants.{Done, Refused}
 use Rattle.protocol.specs.declared.Refusal.{Refusal}
 use Rattle.protocol.specs.declared.Refusal.the-variants.{Sizes, Fault, NodeNumber, AlreadyUp, AlreadyDown, NoMessage, ClockEnd, DeltaEnd, ChannelFull}
 use Rattle.protocol.specs.declared.Rule.{Rule}
-use Rattle.protocol.specs.declared.Rule.the-variants.{ChannelUp, ElectSelf, StartNewRefLevel, NoChange, Ignored, ReflectRefLevel, PropagateLargestRefLevel, AdoptLpIfPriority, Reply}
+use Rattle.protocol.specs.declared.Rule.the-variants.{ChannelUp, ElectSelf, StartNewRefLevel, NoChange, Ignored}
+use Rattle.protocol.specs.declared.Rule.the-variants.{ReflectRefLevel, PropagateLargestRefLevel, AdoptLpIfPriority, Reply}
 
 pub record Said : Type 0 where
   pub number : ℕ  -- the returned number; 0: carried out

@@ -10,7 +10,8 @@ use lib.Signed.{ltZ}
 use Rattle.height.specs.Clock.{lastTime}
 use Rattle.nodeset.specs.NodeSet.{setOf}
 use Rattle.protocol.specs.declared.Rule.{Rule}
-use Rattle.protocol.specs.declared.Rule.the-variants.{ChannelUp, ElectSelf, StartNewRefLevel, NoChange, Ignored, ReflectRefLevel, PropagateLargestRefLevel, AdoptLpIfPriority, Reply}
+use Rattle.protocol.specs.declared.Rule.the-variants.{ChannelUp, ElectSelf, StartNewRefLevel, NoChange, Ignored}
+use Rattle.protocol.specs.declared.Rule.the-variants.{ReflectRefLevel, PropagateLargestRefLevel, AdoptLpIfPriority, Reply}
 use Rattle.protocol.specs.Answer.{Said, saidRule, saidRefused}
 use Rattle.protocol.specs.Functions.{every}
 use Rattle.protocol.specs.Holds.{isEmpty, leastDelta, greatestDelta}

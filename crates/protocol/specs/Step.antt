@@ -8,7 +8,8 @@ use lib.IntN.{pos, sucℤ, predℤ}
 use Rattle.height.specs.Height.{zeroHeight, selfElected}
 use Rattle.height.specs.declared.Height.{Height}
 use Rattle.protocol.specs.declared.Rule.{Rule}
-use Rattle.protocol.specs.declared.Rule.the-variants.{ChannelUp, ElectSelf, StartNewRefLevel, NoChange, Ignored, ReflectRefLevel, PropagateLargestRefLevel, AdoptLpIfPriority, Reply}
+use Rattle.protocol.specs.declared.Rule.the-variants.{ChannelUp, ElectSelf, StartNewRefLevel, NoChange, Ignored}
+use Rattle.protocol.specs.declared.Rule.the-variants.{ReflectRefLevel, PropagateLargestRefLevel, AdoptLpIfPriority, Reply}
 use Rattle.protocol.specs.Clock.{ticked, receiptClock}
 use Rattle.protocol.specs.Functions.{update}
 use Rattle.protocol.specs.Network.{Message, Network, upTo}

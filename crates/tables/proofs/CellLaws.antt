@@ -30,6 +30,17 @@ unfolding messagesAt
 messages-length zero ws i = refl
 messages-length (suc k) ws i = ap suc (messages-length k ws (i + 8))
 
+-- message m of the loaded channel is what stands from word 1 + 8 m of its cell
+messages-nth : (k : ℕ) (ws : List ℕ) (i m : ℕ) (d : Message) → m < k → getD (messagesAt k ws i) m d ≡ messageAt ws (i + m * 8)
+unfolding messagesAt
+messages-nth zero ws i m d l = absurd (omega arith)
+messages-nth (suc k) ws i zero d l = ap (messageAt ws) (omega arith)
+messages-nth (suc k) ws i (suc m) d l = messages-nth k ws (i + 8) m d (omega arith) ∙ ap (messageAt ws) (omega arith)
+
+pub queue-nth : (cell : List ℕ) (m : ℕ) (d : Message) → m < count cell → getD (queue cell) m d ≡ messageAt cell (1 + m * 8)
+unfolding queue
+queue-nth cell m d l = messages-nth (count cell) cell 1 m d l
+
 places-back : (k c : ℕ) (ws : List ℕ) (i : ℕ) → i + k * 8 ≤ length ws → c ≤ k
     → ((j : ℕ) → j < k → getD ws (i + (j * 8 + 3)) 0 < 4294967296) → ((j : ℕ) → c * 8 ≤ j → j < k * 8 → getD ws (i + j) 0 ≡ 0)
     → part i (k * 8) ws ≡ placeWords k (messagesAt c ws i)
@@ -93,16 +104,18 @@ module _ (cell : List ℕ) (h : Height) (t : ℕ) (fits : CellFits cell) (room :
   stored = storedAt cell (place (count cell)) h
 
   -- a word outside the place of the new message, and past the count
-  appended-other : (j : ℕ) → 1 ≤ j → (j < place (count cell) → ⊥) → place (count cell) + 8 ≤ j → getD (appended cell h t) j 0 ≡ getD cell j 0
+  appended-other : (j : ℕ) → 1 ≤ j → place (count cell) + 8 ≤ j → getD (appended cell h t) j 0 ≡ getD cell j 0
   unfolding appended
-  appended-other j l m q =
-      getD-set-other (set (storedAt cell (place (count cell)) h) (place (count cell) + 7) t) 0 j (count cell + 1) 0 (λ e. omega arith) ∙ getD-set-other (storedAt cell (place (count cell)) h) (place (count cell) + 7) j t 0 (λ e. omega arith)
+  appended-other j l q =
+      getD-set-other (set (storedAt cell (place (count cell)) h) (place (count cell) + 7) t) 0 j (count cell + 1) 0 (λ e. omega arith)
+      ∙ getD-set-other (storedAt cell (place (count cell)) h) (place (count cell) + 7) j t 0 (λ e. omega arith)
       ∙ stored-past cell (place (count cell)) h j (omega arith)
 
   appended-before : (j : ℕ) → 1 ≤ j → j < place (count cell) → getD (appended cell h t) j 0 ≡ getD cell j 0
   unfolding appended
   appended-before j l q =
-      getD-set-other (set (storedAt cell (place (count cell)) h) (place (count cell) + 7) t) 0 j (count cell + 1) 0 (λ e. omega arith) ∙ getD-set-other (storedAt cell (place (count cell)) h) (place (count cell) + 7) j t 0 (λ e. omega arith)
+      getD-set-other (set (storedAt cell (place (count cell)) h) (place (count cell) + 7) t) 0 j (count cell + 1) 0 (λ e. omega arith)
+      ∙ getD-set-other (storedAt cell (place (count cell)) h) (place (count cell) + 7) j t 0 (λ e. omega arith)
       ∙ stored-before cell (place (count cell)) h j q
 
   appended-in : (j : ℕ) → j < 7 → getD (appended cell h t) (place (count cell) + j) 0 ≡ getD stored (place (count cell) + j) 0
@@ -119,7 +132,9 @@ module _ (cell : List ℕ) (h : Height) (t : ℕ) (fits : CellFits cell) (room :
 
   pub appended-count : count (appended cell h t) ≡ count cell + 1
   unfolding appended
-  appended-count = getD-set-same (set (storedAt cell (place (count cell)) h) (place (count cell) + 7) t) 0 (count cell + 1) 0 (simp (length-set, stored-length) (omega (arith, fits .wide)))
+  appended-count =
+      getD-set-same (set (storedAt cell (place (count cell)) h) (place (count cell) + 7) t) 0 (count cell + 1) 0
+      (simp (length-set, stored-length) (omega (arith, fits .wide)))
 
   pub appended-wide : length (appended cell h t) ≡ 65
   unfolding appended
@@ -138,7 +153,8 @@ module _ (cell : List ℕ) (h : Height) (t : ℕ) (fits : CellFits cell) (room :
   queue-appended =
       ap (λ (k : ℕ). messagesAt k (appended cell h t) 1) (appended-count ∙ add-one (count cell))
       ∙ messages-last (count cell) (appended cell h t) 1
-      ∙ ap (λ (ms : List Message). ms ++ (messageAt (appended cell h t) (1 + count cell * 8) ∷ [])) (messages-same (count cell) (appended cell h t) cell 1 (λ j q. appended-before (1 + j) (omega arith) (omega arith)))
+      ∙ ap (λ (ms : List Message). ms ++ (messageAt (appended cell h t) (1 + count cell * 8) ∷ []))
+      (messages-same (count cell) (appended cell h t) cell 1 (λ j q. appended-before (1 + j) (omega arith) (omega arith)))
       ∙ ap (λ (m : Message). messagesAt (count cell) cell 1 ++ (m ∷ [])) appended-message
 
   place-word : (k : ℕ) → k < 8 → (k ≡ count cell → ⊥) → getD (appended cell h t) (1 + (k * 8 + 3)) 0 ≡ getD cell (1 + (k * 8 + 3)) 0
@@ -146,7 +162,7 @@ module _ (cell : List ℕ) (h : Height) (t : ℕ) (fits : CellFits cell) (room :
     where
       go : Dec (k < count cell) → getD (appended cell h t) (1 + (k * 8 + 3)) 0 ≡ getD cell (1 + (k * 8 + 3)) 0
       go (yes q) = appended-before (1 + (k * 8 + 3)) (omega arith) (omega arith)
-      go (no q) = appended-other (1 + (k * 8 + 3)) (omega arith) (λ e. omega arith) (omega arith)
+      go (no q) = appended-other (1 + (k * 8 + 3)) (omega arith) (omega arith)
 
   new-delta : getD (appended cell h t) (1 + (count cell * 8 + 3)) 0 < 4294967296
   unfolding stored storedAt heightWords
@@ -161,7 +177,7 @@ module _ (cell : List ℕ) (h : Height) (t : ℕ) (fits : CellFits cell) (room :
     wide = appended-wide;
     few = omega (arith, appended-count);
     deltas = λ k l. depth k l (equal? k (count cell));
-    unused = λ j l q. appended-other (1 + j) (omega arith) (λ e. omega (arith, appended-count)) (omega (arith, appended-count)) ∙ fits .unused j (omega (arith, appended-count)) q;
+    unused = λ j l q. appended-other (1 + j) (omega arith) (omega (arith, appended-count)) ∙ fits .unused j (omega (arith, appended-count)) q;
   }
     where
       depth : (k : ℕ) → k < 8 → (k ≡ count cell) ⊎ (k ≡ count cell → ⊥) → getD (appended cell h t) (1 + (k * 8 + 3)) 0 < 4294967296

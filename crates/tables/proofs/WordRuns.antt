@@ -57,7 +57,9 @@ unfolding run
 run-same zero ws us i j h = refl
 run-same (suc k) ws us i j h =
     let first : getD ws i 0 ≡ getD us j 0 = rw (add-zero i, add-zero j) at (h 0 (omega arith)) in
-    rw (first, run-same k ws us (suc i) (suc j) (λ m l. let a : suc i + m ≡ i + suc m = omega arith in let b : suc j + m ≡ j + suc m = omega arith in rw (a, b) (h (suc m) (omega arith))))
+    let rest = run-same k ws us (suc i) (suc j)
+    (λ m l. let a : suc i + m ≡ i + suc m = omega arith in let b : suc j + m ≡ j + suc m = omega arith in rw (a, b) (h (suc m) (omega arith))) in
+    rw (first, rest)
 
 -- a row of a row
 pub row-in : (w n i j : ℕ) (xs : List ℕ) → length xs ≡ n * (n * w) → i < n → j < n → rowAt w j (rowAt (n * w) i xs) ≡ rowAt w (i * n + j) xs

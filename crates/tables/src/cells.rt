@@ -1,8 +1,8 @@
-// A channel's cell, and the operations on it: count, first message, append, take the first, clear.
+// A channel's cell, and the operations on it: count, nth message, append, take the first, clear, zero after the messages.
 // Nothing else touches cells, so that a shared store of messages replaces these alone.
 ghost use mathlib.Core.Path.{_≡_};
-ghost use Prim.Native.Nat.{_+_, _≤_, _<_};
-ghost use lib.ListN.{length, replicate};
+ghost use Prim.Native.Nat.{_+_, _*_, _≤_, _<_};
+ghost use lib.ListN.{length, replicate, drop};
 ghost use Rattle.height.specs.Words.{Negated};
 ghost use Rattle.tables.specs.Cell.{count, messageAt, appended, taken, emptied, allZero};
 ghost use Rattle.tables.specs.Tables.{cellWidth};
@@ -17,19 +17,28 @@ pub fn waiting(cell: &[u32]) -> u32
     cell[0]
 }
 
-// The first message's height and timestamp.
-pub fn first_height(cell: &[u32]) -> Height
-    requires { ⌜ length (now cell) ≡ cellWidth ⌝ }
-    ensures { λ r. ⌜ (r ≡ messageAt (now (cell .entry)) 1 .height) × Negated (r .pair .nlts .0) ⌝ }
+// Message k, counted from 0: its height and its timestamp.
+pub fn nth_height(cell: &[u32], k: usize) -> Height
+    requires { ⌜ (length (now cell) ≡ cellWidth) × (k < 8) ⌝ }
+    ensures { λ r. ⌜ (r ≡ messageAt (now (cell .entry)) (1 + k * 8) .height) × Negated (r .pair .nlts .0) ⌝ }
 {
-    height::words::load_height(cell, 1)
+    height::words::load_height(cell, 1 + k * 8)
 }
 
-pub fn first_timestamp(cell: &[u32]) -> Time
-    requires { ⌜ length (now cell) ≡ cellWidth ⌝ }
-    ensures { λ r. ⌜ r .0 ≡ messageAt (now (cell .entry)) 1 .timestamp ⌝ }
+pub fn nth_timestamp(cell: &[u32], k: usize) -> Time
+    requires { ⌜ (length (now cell) ≡ cellWidth) × (k < 8) ⌝ }
+    ensures { λ r. ⌜ r .0 ≡ messageAt (now (cell .entry)) (1 + k * 8) .timestamp ⌝ }
 {
-    Time(cell[8])
+    Time(cell[1 + k * 8 + 7])
+}
+
+// Whether every word after the first `count` messages is zero.
+pub fn is_unused_after(cell: &[u32], count: usize) -> bool
+    requires { ⌜ (length (now cell) ≡ cellWidth) × (count ≤ 8) ⌝ }
+    ensures { λ r. ⌜ r ≡ allZero (drop (1 + count * 8) (now (cell .entry))) ⌝ }
+{
+    let a = 1 + count * 8;
+    all_zero(&cell[a..])
 }
 
 // One more message.

@@ -11,11 +11,11 @@ node-requires c κs = search needs
 channel-requires : tie.Need-channel-requires
 channel-requires c κs = search needs
 
-first-height-requires : tie.Need-first-height-requires
-first-height-requires c κs = search needs
+nth-height-requires : tie.Need-nth-height-requires
+nth-height-requires c κs = search needs
 
-first-timestamp-requires : tie.Need-first-timestamp-requires
-first-timestamp-requires c κs = search needs
+nth-timestamp-requires : tie.Need-nth-timestamp-requires
+nth-timestamp-requires c κs = search needs
 
 clock-requires : tie.Need-clock-requires
 clock-requires c κs = search needs
@@ -41,7 +41,7 @@ returns c =
     let d = k .before .before .before in
     let p = d .before .before .before .before .before .before .pre in
     heard-late (p .0) (d .channel .ensures .0) (d .before .before .node .ensures .0) (p .1) (k .clock .ensures)
-    (k .before .first-timestamp .ensures) (c .before .before .after .ensures) (c .enum-told .given .1)
+    (k .before .nth-timestamp .ensures) (c .before .before .after .ensures) (c .enum-told .given .1)
 
 neighbors-requires : tie.Need-neighbors-requires
 neighbors-requires c κs =
@@ -64,7 +64,7 @@ of-receipt-requires c κs =
     let w = c .before .before .before .before .before .before .before .before .before .before in
     let r = w .before .before .before in
     let b = r .before .before .before .before .pre .0 in
-    (b .fit .size .few, b .node, b .other, r .node .ensures .1, w .first-height .ensures .1)
+    (b .fit .size .few, b .node, b .other, r .node .ensures .1, w .nth-height .ensures .1)
 
 finish-requires : tie.Need-finish-requires
 finish-requires c κs =
@@ -74,7 +74,7 @@ finish-requires c κs =
     let p = d .before .before .before .before .before .before .pre in
     heard-chosen (p .0) (d .channel .ensures .0) (d .before .before .node .ensures .0) (p .1)
     (x .before .before .before .neighbors .ensures) (x .before .forming .ensures) (x .before .before .insert .ensures)
-    (x .remove .ensures) (w .first-height .ensures .0) (c .before .before .of-receipt .ensures) (w .first-height .ensures .1)
+    (x .remove .ensures) (w .nth-height .ensures .0) (c .before .before .of-receipt .ensures) (w .nth-height .ensures .1)
 
 same-length-3 : tie.Need-same-length-3
 same-length-3 c = search needs
@@ -91,9 +91,9 @@ returns-2 c =
     let p = d .before .before .before .before .before .before .pre in
     rw (heard-ends (p .0) (d .channel .ensures .0) (d .before .before .node .ensures .0) (p .1)
     (x .before .before .before .neighbors .ensures) (x .before .forming .ensures) (x .before .before .insert .ensures)
-    (x .remove .ensures) (k .before .before .first-height .ensures .0)
+    (x .remove .ensures) (k .before .before .nth-height .ensures .0)
     (c .before .before .before .before .before .before .before .of-receipt .ensures) (k .clock .ensures)
-    (k .before .first-timestamp .ensures) (e .before .before .after .ensures) (e .t .given .1))
+    (k .before .nth-timestamp .ensures) (e .before .before .after .ensures) (e .t .given .1))
     at (c .before .before .before .before .finish .ensures)
 
 pub hear-spec : {M : Type 1} → statement M
@@ -102,8 +102,8 @@ hear-spec =
     (tie.spec
     node-requires
     channel-requires
-    first-height-requires
-    first-timestamp-requires
+    nth-height-requires
+    nth-timestamp-requires
     clock-requires
     after-requires
     enum-known-t

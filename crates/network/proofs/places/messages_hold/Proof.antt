@@ -4,9 +4,11 @@ use Prim.Native.Nat.{_+_, _-_, _*_}
 use native.Mathlib.Omega.{arith}
 use mathlib.Core.Bool.{true, false}
 use mathlib.Core.Path.{_≡_, sym, ap, _∙_}
+use borrow.Author.Needs.{needs}
 use borrow.Author.Tests.{not-true, not-false}
 use Rattle.height.specs.Words.{heightAt}
 use Rattle.protocol.specs.Holds.{heightHolds}
+use Rattle.tables.specs.Cell.{messageAt}
 use Rattle.network.proofs.PlaceLaws.{MessagesFrom, messages-start, messages-next, messages-fault, messages-done}
 use Rattle.network.proofs.places.messages_hold.Statement.{statement}
 use Rattle.network.proofs.places.messages_hold.Tie as tie
@@ -20,24 +22,19 @@ abbrev μ-loop : tie.MeasureT-loop
 loop-holds : tie.Need-loop-holds Inv-loop μ-loop
 loop-holds c = messages-start _ _ _ _
 
-mul-load-height : tie.Need-mul-load-height Inv-loop μ-loop
-mul-load-height c = omega arith
-
-add-load-height : tie.Need-add-load-height Inv-loop μ-loop
-add-load-height c = omega arith
-
-load-height-requires : tie.Need-load-height-requires Inv-loop μ-loop
-load-height-requires c κs = omega arith
+nth-height-requires : tie.Need-nth-height-requires Inv-loop μ-loop
+nth-height-requires c κs = search needs
 
 height-holds-requires : tie.Need-height-holds-requires Inv-loop μ-loop
-height-holds-requires c κs = c .load-height .ensures .1
+height-holds-requires c κs = c .nth-height .ensures .1
 
 returns : tie.Need-returns Inv-loop μ-loop
+unfolding messageAt
 returns c =
     let a = c .before .before .before .before .before .before .args in
     let k = c .before .before .before .before .loop .k in
     let e : heightHolds (a .n) (a .u) (heightAt (a .cell .now) (1 + k * 8)) ≡ false =
-    ap (heightHolds (a .n) (a .u)) (sym (c .before .before .load-height .ensures .0))
+    ap (heightHolds (a .n) (a .u)) (sym (c .before .before .nth-height .ensures .0))
     ∙ sym (c .before .height-holds .ensures) ∙ not-true _ (c .if1 .taken) in
     messages-fault (a .n) (a .u) (a .cell .now) (a .count) k (c .before .before .before .before .loop .inv)
     (c .before .before .before .loop-test .taken) e
@@ -49,11 +46,12 @@ loop-less : tie.Need-loop-less Inv-loop μ-loop
 loop-less c = omega arith
 
 loop-again : tie.Need-loop-again Inv-loop μ-loop
+unfolding messageAt
 loop-again c =
     let a = c .before .before .before .before .before .before .args in
     let k = c .before .before .before .before .loop .k in
     let e : heightHolds (a .n) (a .u) (heightAt (a .cell .now) (1 + k * 8)) ≡ true =
-    ap (heightHolds (a .n) (a .u)) (sym (c .before .before .load-height .ensures .0))
+    ap (heightHolds (a .n) (a .u)) (sym (c .before .before .nth-height .ensures .0))
     ∙ sym (c .before .height-holds .ensures) ∙ not-false _ (c .if1 .left) in
     messages-next (a .n) (a .u) (a .cell .now) (a .count) k (c .before .before .before .before .loop .inv)
     (c .before .before .before .loop-test .taken) e
@@ -69,9 +67,7 @@ messages-hold-spec =
     Inv-loop
     μ-loop
     loop-holds
-    mul-load-height
-    add-load-height
-    load-height-requires
+    nth-height-requires
     height-holds-requires
     returns
     add-k
