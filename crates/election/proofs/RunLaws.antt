@@ -20,7 +20,9 @@ use Rattle.protocol.specs.Step.{Event}
 use Rattle.protocol.proofs.Good.{Good, good-started, good-advance}
 use Rattle.protocol.proofs.Holding.{sound-holds}
 use Rattle.protocol.proofs.RuleLaws.{byCases}
+use Rattle.protocol.proofs.Runs.{Promise, good-promise}
 use Rattle.protocol.proofs.TestsLaws.{equal?}
+use Rattle.protocol.proofs.Theorems.{Steady, good-steady}
 use Rattle.tables.specs.Load.{load, tablesOf}
 use Rattle.tables.specs.Tables.{Tables, Sized, sized, width}
 use Rattle.tables.proofs.Back.{Storable, storable, load-back, tables-sized}
@@ -81,17 +83,24 @@ module _ (n : ℕ) (low : 1 ≤ n) (few : n ≤ 16) (s : State) (good : Good n s
 
 -- ---- lists of calls
 
--- both sides after a list of calls
+-- after a list of calls: the same answers, the same tables, the same network, and what `protocol` shows of it
 pub record SameRun (n : ℕ) (s : State) (cs : List EventCall) : Type 0 where
   pub answers-are : saidByTables (tablesOf n (s .network)) cs ≡ saidByMeaning n s cs
   pub tables-are : tablesAfter (tablesOf n (s .network)) cs ≡ tablesOf n (stateAfter n s cs .network)
   pub network-is : load n (tablesAfter (tablesOf n (s .network)) cs) ≡ stateAfter n s cs .network
-  pub good : Good n (stateAfter n s cs)
+  pub steady : Steady n (stateAfter n s cs .network)
+  pub promise : Promise n (stateAfter n s cs)
 
 same-run : (n : ℕ) → 1 ≤ n → n ≤ 16 → (s : State) → Good n s → (cs : List EventCall) → SameRun n s cs
 unfolding saidByTables tablesAfter saidByMeaning stateAfter
 same-run n low few s g [] =
-    record { answers-are = refl; tables-are = refl; network-is = load-back n (s .network) (storable n (s .network) (g .fits)); good = g }
+    record {
+      answers-are = refl;
+      tables-are = refl;
+      network-is = load-back n (s .network) (storable n (s .network) (g .fits));
+      steady = good-steady n s g;
+      promise = good-promise n s g;
+    }
 same-run n low few s g (c ∷ cs) =
     let one = one-call n low few s g c in
     let more = same-run n low few (called n s c) (call-good n low few s g c) cs in
@@ -99,7 +108,8 @@ same-run n low few s g (c ∷ cs) =
       answers-are = rw (one, more .answers-are);
       tables-are = rw one (more .tables-are);
       network-is = rw one (more .network-is);
-      good = more .good;
+      steady = more .steady;
+      promise = more .promise;
     }
 
 -- from `fresh`; what `fresh` fills is `tablesOf n fresh`

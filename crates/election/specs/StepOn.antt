@@ -5,7 +5,6 @@ use mathlib.Core.Bool.{Bool, cond}
 use lib.Dec.{eqb}
 use Rattle.network.specs.Check.{SaidCheck, checkOn}
 use Rattle.protocol.specs.Answer.{Said, saidRefused}
-use Rattle.protocol.specs.Network.{Network}
 use Rattle.protocol.specs.Refusal.{answer, next}
 use Rattle.protocol.specs.Step.{Event}
 use Rattle.tables.specs.Load.{load, tablesOf}
@@ -19,13 +18,9 @@ pub record Outcome : Type 0 where
 abbrev pub outcome : Said → Tables → Outcome
 outcome s t = record { said = s; after = t }
 
--- the tables that hold the new network, where they held the old one
-abbrev pub stored : ℕ → Tables → Network → Tables
-stored n old new = tablesOf n new
-
 -- 3 to 9, or carried out
 unfoldable pub stepAt : ℕ → Event → Tables → Outcome
-stepAt n e t = outcome (answer n (load n t) e) (stored n t (next n (load n t) e))
+stepAt n e t = outcome (answer n (load n t) e) (tablesOf n (next n (load n t) e))
 
 -- by what the check of the tables says: 1 or 2, else on
 unfoldable pub stepChecked : ℕ → Event → Tables → SaidCheck → Outcome

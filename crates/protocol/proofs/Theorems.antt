@@ -33,16 +33,16 @@ Led n s =
 
 -- ---- the theorems
 
+pub good-steady : (n : ℕ) (s : State) → Good n s → Steady n (s .network)
+good-steady n s g = record {
+  breaks-no-rule = sound-holds n (s .network) (g .fits);
+  nothing-beyond = restrict-is n (s .network) (g .fits);
+  times-make-sense = timely-holds n (s .network) (g .inv) (g .fits);
+  no-sink = λ u. g .inv .nodes u .awake;
+}
+
 pub grown-steady : (n : ℕ) (es : List Event) → Steady n (grown n es .network)
-grown-steady n es =
-    let g = good-grown n es in
-    let p = grown n es .network in
-    record {
-      breaks-no-rule = sound-holds n p (g .fits);
-      nothing-beyond = restrict-is n p (g .fits);
-      times-make-sense = timely-holds n p (g .inv) (g .fits);
-      no-sink = λ u. g .inv .nodes u .awake;
-    }
+grown-steady n es = good-steady n (grown n es) (good-grown n es)
 
 pub grown-told : (n : ℕ) (es : List Event) → Told (grown n es .history) (grown n es .network)
 grown-told n es = good-grown n es .told
