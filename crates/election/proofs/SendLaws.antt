@@ -1,4 +1,4 @@
--- What the functions of `sending` leave: lengths of cells, one changed cell, the walk that tests room, and the loop that sends to a set.
+-- What the functions of `sending` leave: lengths of cells, one changed cell, room for a message, and the loop that sends to a set.
 -- Assumes nothing.
 use Prim.Native.Nat.{ℕ, zero, suc, _-_, _*_, _^_, _<_, _≤_}
 use native.Mathlib.Omega.{arith}
@@ -42,30 +42,6 @@ taken-length cell wide = omega (arith, length-append (drop 9 cell) (replicate 8 
 pub room-count : (n u s : ℕ) (cs : List ℕ) (w : ℕ) → roomFor n u s cs w ≡ true → member s w ≡ true → count (channelOf n u w cs) < 8
 unfolding roomFor
 room-count n u s cs w e m = ltb-true (count (channelOf n u w cs)) 8 (rw m at e)
-
--- all nodes above w have room: the walk from n down to 1
-pub record Passed (p : ℕ → Bool) (n w : ℕ) : Type 0 where
-  pub high : w ≤ n
-  pub same : every n p ≡ every w p
-
-pub passed-start : (p : ℕ → Bool) (n : ℕ) → Passed p n n
-passed-start p n = record { high = omega arith; same = refl }
-
-every-last : (p : ℕ → Bool) (w : ℕ) → 0 < w → every w p ≡ (p w && every (w - 1) p)
-unfolding every
-every-last p zero h = absurd (omega arith)
-every-last p (suc k) h = let e : k ≡ suc k - 1 = omega arith in ap (λ (j : ℕ). p (suc k) && every j p) e
-
-module _ (p : ℕ → Bool) {n w : ℕ} (q : Passed p n w) where
-  pub passed-next : 0 < w → p w ≡ true → Passed p n (w - 1)
-  passed-next h e = record { high = omega (arith, q .high); same = q .same ∙ every-last p w h ∙ rw e }
-
-  pub passed-not : 0 < w → p w ≡ false → every n p ≡ false
-  passed-not h e = q .same ∙ every-last p w h ∙ rw e
-
-  pub passed-all : w ≤ 0 → every n p ≡ true
-  unfolding every
-  passed-all h = let e : w ≡ 0 = omega arith in q .same ∙ rw e
 
 -- ---- one cell changed
 

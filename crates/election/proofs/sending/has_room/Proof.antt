@@ -4,7 +4,7 @@ use mathlib.Core.Path.{sym, _∙_}
 use native.Mathlib.Omega.{arith}
 use borrow.Author.Tests.{not-true, not-false}
 use Rattle.election.specs.Cells.{roomFor}
-use Rattle.election.proofs.SendLaws.{Passed, passed-start, passed-next, passed-not, passed-all}
+use Rattle.decision.proofs.Descent.{Passed, rest-start, passed-one, passed-not, passed-all}
 use Rattle.election.proofs.sending.has_room.Statement.{statement}
 use Rattle.election.proofs.sending.has_room.Tie as tie
 
@@ -15,7 +15,7 @@ abbrev μ-loop : tie.MeasureT-loop
 μ-loop n u to channels w₀ w = w
 
 loop-holds : tie.Need-loop-holds Inv-loop μ-loop
-loop-holds c = passed-start _ _
+loop-holds c = rest-start _ _
 
 has-room-for-requires : tie.Need-has-room-for-requires Inv-loop μ-loop
 has-room-for-requires c κs =
@@ -36,7 +36,7 @@ loop-less c = omega arith
 loop-again : tie.Need-loop-again Inv-loop μ-loop
 loop-again c =
     let room = sym (c .before .has-room-for .ensures) ∙ not-false _ (c .if1 .left) in
-    passed-next _ (c .before .before .before .loop .inv) (c .before .before .loop-test .taken) room
+    passed-one _ (c .before .before .before .loop .inv) (c .before .before .loop-test .taken) room
 
 returns-2 : tie.Need-returns-2 Inv-loop μ-loop
 returns-2 c = sym (passed-all _ (c .before .loop .inv) (c .loop-test .left))
