@@ -1,0 +1,39 @@
+-- `bits::digits` meets its contract. Assumes nothing.
+use Prim.Native.Nat.{ℕ, _/_, _%_, _^_}
+use native.Mathlib.Omega.{arith}
+use mathlib.Core.Path.{ap}
+use lib.Pow.{pow-pos}
+use Rattle.bits.proofs.Turns.{one-shl}
+use borrow.Author.Needs.{needs}
+use Rattle.bits.proofs.digits.Statement.{statement}
+use Rattle.bits.proofs.digits.Tie as tie
+use Rattle.bits.proofs.digits.Reads as reads
+use Rattle.bits.proofs.digits.Lts as lts
+
+-- src/lib.rt:46:11
+cast-result : tie.Need-cast-result
+cast-result c = search needs
+
+-- src/lib.rt:46:6
+shr-result : tie.Need-shr-result
+shr-result c = search needs
+
+-- src/lib.rt:46:25
+cast-result-2 : tie.Need-cast-result-2
+cast-result-2 c = search needs
+
+-- src/lib.rt:46:17
+shl-result : tie.Need-shl-result
+shl-result c = search needs
+
+-- src/lib.rt:46:5
+rem-result : tie.Need-rem-result
+rem-result c = rw (one-shl (c .args .n) 32 (omega arith)) (pow-pos (c .args .n))
+
+-- src/lib.rt:42:1
+returns : tie.Need-returns
+returns c = ap (λ (x : ℕ). c .args .v / 2 ^ c .args .r % x) (one-shl (c .args .n) 32 (omega arith))
+
+pub digits-spec : {M : Type 1} → statement M
+digits-spec =
+    tie.close (tie.spec cast-result shr-result cast-result-2 shl-result rem-result returns)

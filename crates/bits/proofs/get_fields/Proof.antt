@@ -1,0 +1,119 @@
+-- `bits::get_fields` meets its contract. Assumes nothing.
+use Prim.Native.Nat.{ℕ, _+_, _-_, _*_, _/_, _%_, _^_, _≤_, _<_}
+use native.Mathlib.Omega.{arith}
+use mathlib.Core.Path.{_≡_, refl, sym, ap, ap₂, _∙_}
+use mathlib.Core.List.{List, _++_, append-nil}
+use borrow.Author.Needs.{needs}
+use lib.ListN.{length, getD, set, take, drop, length-set, drop-of-length-le}
+use lib.Seq.{take-all}
+use Rattle.bits.specs.Bits.{bits, unpacked, over, written, spread, gathered, total, field}
+use Rattle.bits.proofs.Bytes.{written-none, length-written}
+use Rattle.bits.proofs.Fields.{total-in, total-more, put-more, get-more}
+use Rattle.bits.proofs.get_fields.Statement.{statement}
+use Rattle.bits.proofs.get_fields.Tie as tie
+use Rattle.bits.proofs.get_fields.Reads as reads
+use Rattle.bits.proofs.get_fields.Lts as lts
+use Rattle.bits.proofs.get.Reads as get-reads
+use Rattle.bits.proofs.wide.Reads as wide-reads
+
+abbrev Inv-loop : tie.InvT-loop
+Inv-loop bytes at widths values₀ place₀ k₀ values place k = (k ≤ length widths) × ((place ≡ at + total (take k widths)) × ((length values ≡ length values₀) × (values ≡ gathered (take k widths) (drop at (unpacked bytes)) ++ drop k values₀)))
+
+abbrev μ-loop : tie.MeasureT-loop
+μ-loop bytes at widths values₀ place₀ k₀ values place k = length widths - k
+
+-- src/lib.rt:97:5
+loop-holds : tie.Need-loop-holds Inv-loop μ-loop
+unfolding total gathered
+loop-holds c = (omega arith, (omega arith, (refl, refl)))
+
+-- src/lib.rt:98:22
+shared-slice-read-wide : tie.Need-shared-slice-read-wide Inv-loop μ-loop
+shared-slice-read-wide c = omega arith
+
+-- src/lib.rt:98:13
+wide-requires : tie.Need-wide-requires Inv-loop μ-loop
+wide-requires c κs = omega arith
+
+-- src/lib.rt:99:21
+get-requires : tie.Need-get-requires Inv-loop μ-loop
+get-requires c κs =
+    let a = c .before .before .before .before .before .before .before .args in
+    let k = c .before .before .before .loop .k in
+    let t = total-in (a .widths .now) k (omega arith) in
+    let r = c .before .before .before .before .before .before .before .pre .0 .narrow k in
+    omega arith
+
+-- src/lib.rt:99:9
+mul-values : tie.Need-mul-values Inv-loop μ-loop
+mul-values c = omega arith
+
+-- src/lib.rt:99:9
+slice-write-values : tie.Need-slice-write-values Inv-loop μ-loop
+slice-write-values c = omega arith
+
+-- src/lib.rt:100:9
+add-place : tie.Need-add-place Inv-loop μ-loop
+add-place c = omega (arith, total-in (c .before .before .before .before .before .before .before .before .args .widths .now) (c .before .before .before .before .loop .k) (omega arith))
+
+-- src/lib.rt:101:9
+add-k : tie.Need-add-k Inv-loop μ-loop
+add-k c = omega arith
+
+-- src/lib.rt:97:5
+loop-less : tie.Need-loop-less Inv-loop μ-loop
+loop-less c = omega arith
+
+-- src/lib.rt:97:5
+loop-again : tie.Need-loop-again Inv-loop μ-loop
+loop-again c =
+    let a = c .before .before .before .before .before .before .before .before .args in
+    let l = c .before .before .before .before .loop in
+    let ws = a .widths .now in
+    let h : l .k < length ws = omega arith in
+    let e : c .get .result ≡ field (a .bytes .now) (a .at + total (take (l .k) ws)) (getD ws (l .k) 0) =
+    c .get .ensures ∙ ap₂ (field (a .bytes .now)) (l .inv .1 .0) (c .before .wide .ensures) in (
+      omega arith,
+      (
+        omega (arith, total-more ws (l .k) h),
+        (
+          length-set (l .values) (l .k) (c .get .result) ∙ l .inv .1 .1 .0,
+          ap (set (l .values) (l .k)) e
+              ∙ get-more (a .bytes .now) (a .at) ws (a .values .now) (l .values) (l .k) h (c .before .before .before .before .before .before .before .before .pre .1) (l .inv .1 .1 .1),
+        ),
+      ),
+    )
+
+-- src/lib.rt:91:1
+same-length : tie.Need-same-length Inv-loop μ-loop
+same-length c = c .before .loop .inv .1 .1 .0
+
+-- src/lib.rt:91:1
+returns : tie.Need-returns Inv-loop μ-loop
+returns c =
+    let a = c .before .before .before .before .before .args in
+    let l = c .before .loop in
+    let bs = drop (a .at) (unpacked (a .bytes .now)) in
+    let z : length (a .values .now) ≤ l .k = omega arith in
+    l .inv .1 .1 .1
+    ∙ ap₂ (λ (x y : List ℕ). gathered x bs ++ y) (take-all (l .k) (a .widths .now) (omega arith)) (drop-of-length-le (a .values .now) z)
+    ∙ append-nil (gathered (a .widths .now) bs)
+
+pub get-fields-spec : {M : Type 1} → statement M
+get-fields-spec =
+    tie.close
+    (tie.spec
+    Inv-loop
+    μ-loop
+    loop-holds
+    shared-slice-read-wide
+    wide-requires
+    get-requires
+    mul-values
+    slice-write-values
+    add-place
+    add-k
+    loop-less
+    loop-again
+    same-length
+    returns)

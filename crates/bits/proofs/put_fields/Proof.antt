@@ -1,0 +1,113 @@
+-- `bits::put_fields` meets its contract. Assumes nothing.
+use Prim.Native.Nat.{ℕ, _+_, _-_, _*_, _/_, _%_, _^_, _≤_, _<_}
+use native.Mathlib.Omega.{arith}
+use mathlib.Core.Path.{_≡_, refl, sym, ap, ap₂, _∙_}
+use mathlib.Core.List.{List, _++_, append-nil}
+use borrow.Author.Needs.{needs}
+use lib.ListN.{length, getD, take, drop, length-set, drop-of-length-le}
+use lib.Seq.{take-all}
+use Rattle.bits.specs.Bits.{bits, unpacked, over, written, spread, gathered, total, field}
+use Rattle.bits.proofs.Bytes.{written-none, length-written}
+use Rattle.bits.proofs.Fields.{total-in, total-more, put-more, get-more}
+use Rattle.bits.proofs.put_fields.Statement.{statement}
+use Rattle.bits.proofs.put_fields.Tie as tie
+use Rattle.bits.proofs.put_fields.Reads as reads
+use Rattle.bits.proofs.put_fields.Lts as lts
+use Rattle.bits.proofs.put.Reads as put-reads
+use Rattle.bits.proofs.wide.Reads as wide-reads
+
+abbrev Inv-loop : tie.InvT-loop
+Inv-loop buf₀ at widths values place₀ k₀ buf place k = (k ≤ length widths) × ((place ≡ at + total (take k widths)) × ((length buf ≡ length buf₀) × (buf ≡ written buf₀ at (spread (take k widths) (take k values)))))
+
+abbrev μ-loop : tie.MeasureT-loop
+μ-loop buf₀ at widths values place₀ k₀ buf place k = length widths - k
+
+-- src/lib.rt:82:5
+loop-holds : tie.Need-loop-holds Inv-loop μ-loop
+unfolding total spread
+loop-holds c =
+    let a = c .before .before .before .args in
+    (omega arith, (omega arith, (refl, sym (written-none (a .buf .now) (a .at) (λ i. c .before .before .slice-known .given i .fits) (omega arith)))))
+
+-- src/lib.rt:83:22
+shared-slice-read-wide : tie.Need-shared-slice-read-wide Inv-loop μ-loop
+shared-slice-read-wide c = omega arith
+
+-- src/lib.rt:83:13
+wide-requires : tie.Need-wide-requires Inv-loop μ-loop
+wide-requires c κs = omega arith
+
+-- src/lib.rt:84:33
+mul-put : tie.Need-mul-put Inv-loop μ-loop
+mul-put c = omega arith
+
+-- src/lib.rt:84:33
+shared-slice-read-put : tie.Need-shared-slice-read-put Inv-loop μ-loop
+shared-slice-read-put c = omega arith
+
+-- src/lib.rt:84:9
+put-requires : tie.Need-put-requires Inv-loop μ-loop
+put-requires c κs =
+    let a = c .before .before .before .before .before .before .before .before .before .args in
+    let k = c .before .before .before .before .before .loop .k in
+    let t = total-in (a .widths .now) k (omega arith) in
+    let r = c .before .before .before .before .before .before .before .before .before .pre .0 .narrow k in
+    omega arith
+
+-- src/lib.rt:85:9
+add-place : tie.Need-add-place Inv-loop μ-loop
+add-place c = omega (arith, total-in (c .before .before .before .before .before .before .before .before .before .before .before .before .args .widths .now) (c .before .before .before .before .before .before .before .before .loop .k) (omega arith))
+
+-- src/lib.rt:86:9
+add-k : tie.Need-add-k Inv-loop μ-loop
+add-k c = omega arith
+
+-- src/lib.rt:82:5
+loop-less : tie.Need-loop-less Inv-loop μ-loop
+loop-less c = omega arith
+
+-- src/lib.rt:82:5
+loop-again : tie.Need-loop-again Inv-loop μ-loop
+loop-again c =
+    let a = c .before .before .before .before .before .before .before .before .before .before .before .before .args in
+    let l = c .before .before .before .before .before .before .before .before .loop in
+    let ws = a .widths .now in
+    let vs = a .values .now in
+    let h : l .k < length ws = omega arith in
+    let e : c .before .before .put .last .0 ≡ written (a .buf .now) (a .at) (spread (take (l .k + 1) ws) (take (l .k + 1) vs)) =
+    c .before .before .put .ensures
+    ∙ ap₂ (λ (x : List ℕ) (y : ℕ). written x y (bits (c .before .before .before .before .before .wide .result) (getD vs (l .k) 0))) (l .inv .1 .1 .1) (l .inv .1 .0)
+    ∙ ap (λ (x : ℕ). written (written (a .buf .now) (a .at) (spread (take (l .k) ws) (take (l .k) vs))) (a .at + total (take (l .k) ws)) (bits x (getD vs (l .k) 0))) (c .before .before .before .before .before .wide .ensures)
+    ∙ put-more (a .buf .now) (a .at) ws vs (l .k) h (c .before .before .before .before .before .before .before .before .before .before .before .before .pre .1) (c .before .before .before .before .before .before .before .before .before .before .before .before .pre .0 .inside) in
+    (omega arith, (omega (arith, total-more ws (l .k) h), (ap length e ∙ length-written (a .buf .now) (a .at) (spread (take (l .k + 1) ws) (take (l .k + 1) vs)), e)))
+
+-- src/lib.rt:76:1
+same-length : tie.Need-same-length Inv-loop μ-loop
+same-length c = c .before .loop .inv .1 .1 .0
+
+-- src/lib.rt:76:1
+returns : tie.Need-returns Inv-loop μ-loop
+returns c =
+    let a = c .before .before .before .before .before .args in
+    let l = c .before .loop in
+    l .inv .1 .1 .1
+    ∙ ap₂ (λ (x y : List ℕ). written (a .buf .now) (a .at) (spread x y)) (take-all (l .k) (a .widths .now) (omega arith)) (take-all (l .k) (a .values .now) (omega arith))
+
+pub put-fields-spec : {M : Type 1} → statement M
+put-fields-spec =
+    tie.close
+    (tie.spec
+    Inv-loop
+    μ-loop
+    loop-holds
+    shared-slice-read-wide
+    wide-requires
+    mul-put
+    shared-slice-read-put
+    put-requires
+    add-place
+    add-k
+    loop-less
+    loop-again
+    same-length
+    returns)

@@ -1,0 +1,2 @@
+-- Bits of bytes.
+pub mod Bits

@@ -1,0 +1,105 @@
+// Fields of 0 to 32 bits at any bit place of bytes, most significant bit first, byte by byte.
+// These are leaves: only our crates call them, with the bounds that `requires` states.
+ghost use mathlib.Core.Path.{_≡_};
+ghost use Prim.Native.Nat.{_+_, _*_, _/_, _%_, _^_, _≤_, _<_};
+ghost use lib.ListN.{length, take, drop};
+ghost use Rattle.bits.specs.Bits.{bits, unpacked, over, field, written, spread, gathered, RoomFor};
+
+// The n low bits of a number after its r lowest.
+pub fn digits(v: u32, n: usize, r: usize) -> u32
+    requires { ⌜ (n ≤ 8) × (r < 32) ⌝ }
+    ensures { λ p. ⌜ p ≡ v / 2 ^ r % 2 ^ n ⌝ }
+{
+    (v >> r) % (1u32 << n)
+}
+
+// How many bits of a field of `left` bits stand in the byte that holds the bit place `at`.
+pub fn run(at: usize, left: usize) -> usize
+    requires { ⌜ 0 < left ⌝ }
+    ensures { λ n. ⌜ (0 < n) × ((n ≤ left) × (at % 8 + n ≤ 8)) ⌝ }
+{
+    let room = 8 - at % 8;
+    if left < room { left } else { room }
+}
+
+// The field of `width` bits at a bit place, the most significant bit first: up to five bytes are read.
+pub fn get(bytes: &[u8], at: usize, width: usize) -> u32
+    requires { ⌜ (width ≤ 32) × ((at < 2 ^ 32) × (at + width ≤ 8 * length (now bytes))) ⌝ }
+    ensures { λ v. ⌜ v ≡ field (now (bytes .entry)) at width ⌝ }
+{
+    let mut v: u32 = 0;
+    let mut done: usize = 0;
+    while done < width {
+        let place = at + done;
+        let n = run(place, width - done);
+        let i = place / 8;
+        let p = digits(bytes[i] as u32, n, 8 - place % 8 - n);
+        v = (v << n) + p;
+        done += n;
+    }
+    v
+}
+
+// The byte with n of its bits replaced, from the bit `off` on.
+pub fn spliced(b: u8, off: usize, n: usize, p: u32) -> u8
+    requires { ⌜ (off + n ≤ 8) × (p < 2 ^ n) ⌝ }
+    ensures { λ y. ⌜ bits 8 y ≡ over (bits 8 b) off (bits n p) ⌝ }
+{
+    let r = 8 - off - n;
+    let x = b as u32;
+    let high = x >> (n + r);
+    let low = x % (1u32 << r);
+    ((((high << n) + p) << r) + low) as u8
+}
+
+// The low `width` bits of a value go to a bit place, the most significant first; every other bit stays.
+pub fn put(buf: &mut [u8], at: usize, width: usize, value: u32)
+    requires { ⌜ (width ≤ 32) × ((at < 2 ^ 32) × (at + width ≤ 8 * length (now buf))) ⌝ }
+    ensures { λ _. ⌜ now (buf .exit) ≡ written (now (buf .entry)) at (bits width value) ⌝ }
+{
+    let mut done: usize = 0;
+    while done < width {
+        let place = at + done;
+        let n = run(place, width - done);
+        let i = place / 8;
+        let p = digits(value, n, width - done - n);
+        buf[i] = spliced(buf[i], place % 8, n, p);
+        done += n;
+    }
+}
+
+fn wide(w: u8) -> usize
+    ensures { λ r. ⌜ r ≡ w ⌝ }
+{
+    w as usize
+}
+
+// Values go to fields end to end from a bit place on, each at its width.
+pub fn put_fields(buf: &mut [u8], at: usize, widths: &[u8], values: &[u32])
+    requires { ⌜ RoomFor (now buf) at (now widths) × (length (now widths) ≡ length (now values)) ⌝ }
+    ensures { λ _. ⌜ now (buf .exit) ≡ written (now (buf .entry)) at (spread (now (widths .entry)) (now (values .entry))) ⌝ }
+{
+    let mut place = at;
+    let mut k: usize = 0;
+    while k < widths.len() {
+        let w = wide(widths[k]);
+        put(buf, place, w, values[k]);
+        place += w;
+        k += 1;
+    }
+}
+
+// The values of the fields that stand end to end from a bit place on.
+pub fn get_fields(bytes: &[u8], at: usize, widths: &[u8], values: &mut [u32])
+    requires { ⌜ RoomFor (now bytes) at (now widths) × (length (now widths) ≡ length (now values)) ⌝ }
+    ensures { λ _. ⌜ now (values .exit) ≡ gathered (now (widths .entry)) (drop at (unpacked (now (bytes .entry)))) ⌝ }
+{
+    let mut place = at;
+    let mut k: usize = 0;
+    while k < widths.len() {
+        let w = wide(widths[k]);
+        values[k] = get(bytes, place, w);
+        place += w;
+        k += 1;
+    }
+}
