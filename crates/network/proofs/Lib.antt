@@ -1,6 +1,4 @@
 -- Laws of the check of the lent tables and of the fresh ones.
-pub mod HoldsLaws
-pub mod PlaceLaws
 pub mod Walks
 pub mod CheckLaws
 pub mod SoundTables

@@ -32,7 +32,8 @@ use Rattle.tables.specs.Tables.{Tables, width, nodeOf, channelOf}
 use Rattle.tables.proofs.CellLaws.{messages-length}
 use Rattle.tables.proofs.RowLaws.{height-past}
 use Rattle.tables.proofs.TablesLaws.{load-clock, load-neighbors, load-forming, load-height, load-channel, member-node}
-use Rattle.network.specs.Check.{viewPlace, checkOn}
+use Rattle.places.specs.Place.{viewPlace}
+use Rattle.network.specs.Check.{checkOn}
 use Rattle.network.proofs.SoundTables.{Words, OwnHolds, ChannelHolds, row-word, zero-at, sound-own, sound-view, sound-channel}
 
 -- ---- zero words

@@ -30,7 +30,8 @@ use Rattle.tables.specs.Row.{clockIn, neighborsIn, formingIn, heightIn, nodeWor
 use Rattle.tables.specs.Rows.{part, rowAt, rows}
 use Rattle.tables.specs.Tables.{Tables, Sized, sized, width, nodeOf, channelOf}
 use Rattle.tables.proofs.Back.{Storable, node-of, cell-of, set-back, node-height, queue-back, row-of, words-length, message-length, tables-sized}
-use Rattle.network.specs.Check.{SaidCheck, checked, ownPlace, viewPlace, channelPlace, placeIn, place, faultInRow, faultFrom, firstFault, checkOn}
+use Rattle.places.specs.Place.{ownPlace, viewPlace, channelPlace, placeIn}
+use Rattle.network.specs.Check.{SaidCheck, checked, place, faultInRow, faultFrom, firstFault, checkOn}
 
 -- ---- zero words
 

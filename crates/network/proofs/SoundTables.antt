@@ -23,7 +23,8 @@ use Rattle.tables.specs.Row.{neighborsIn, formingIn, heightIn}
 use Rattle.tables.specs.Rows.{rowAt}
 use Rattle.tables.specs.Tables.{Tables, Sized, width, cellWidth, nodeOf, pairOf, channelOf}
 use Rattle.tables.proofs.RowsLaws.{node-length, channel-length}
-use Rattle.network.specs.Check.{ownPlace, viewPlace, channelPlace, placeIn, place, checkOn}
+use Rattle.places.specs.Place.{ownPlace, viewPlace, channelPlace, placeIn}
+use Rattle.network.specs.Check.{place, checkOn}
 use Rattle.network.proofs.CheckLaws.{sound-sized, sound-place}
 
 -- every word is one of 32 bits

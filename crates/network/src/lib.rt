@@ -5,8 +5,7 @@ ghost use Rattle.network.specs.Check.{saidCheck, checkOn};
 ghost use Rattle.network.specs.Fresh.{filled, freshOn};
 
 mod filling;
-mod heights;
-mod places;
+mod search;
 
 // What a check answers: nothing at fault (0), sizes (1), or the first pair at fault (2).
 pub enum Checked {
@@ -31,7 +30,7 @@ pub fn check(n: u32, nodes: &[u32], channels: &[u32]) -> Checked
     ensures { λ r. ⌜ saidCheck r ≡ checkOn n (before nodes channels) ⌝ }
 {
     if is_sized(n, nodes, channels) {
-        return places::first_fault(n, nodes, channels);
+        return search::first_fault(n, nodes, channels);
     }
     Checked::Sizes
 }

@@ -1,0 +1,40 @@
+// The soundness check: every place of the tables, and the first that is at fault.
+ghost use mathlib.Core.Path.{_≡_};
+ghost use Rattle.protocol.specs.Component.{Node};
+ghost use Rattle.tables.specs.Tables.{given, before, Sized};
+ghost use Rattle.network.specs.Check.{saidCheck, place, firstFault};
+use super::Checked;
+
+fn place_holds(n: u32, u: u32, v: u32, nodes: &[u32], channels: &[u32]) -> bool
+    requires { ⌜ Sized n (given nodes channels) × Node n u × Node n v ⌝ }
+    ensures { λ r. ⌜ r ≡ place n (before nodes channels) u v ⌝ }
+{
+    places::place_in(
+        n,
+        u,
+        v,
+        tables::rows::node(n, u, nodes),
+        tables::rows::channel(n, u, v, channels),
+    )
+}
+
+// The first pair at fault, u ascending, then v ascending; the search stops there, out of both walks.
+pub fn first_fault(n: u32, nodes: &[u32], channels: &[u32]) -> Checked
+    requires { ⌜ Sized n (given nodes channels) ⌝ }
+    ensures { λ r. ⌜ saidCheck r ≡ firstFault n (before nodes channels) ⌝ }
+{
+    let mut found = Checked::Sound;
+    let mut u = 1;
+    'search: while u <= n {
+        let mut v = 1;
+        while v <= n {
+            if !place_holds(n, u, v, nodes, channels) {
+                found = Checked::Fault(u, v);
+                break 'search;
+            }
+            v += 1;
+        }
+        u += 1;
+    }
+    found
+}

@@ -1,0 +1,3 @@
+-- Laws of the test of one place.
+pub mod HoldsLaws
+pub mod PlaceLaws

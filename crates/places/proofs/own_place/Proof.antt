@@ -1,0 +1,46 @@
+-- `places::own_place` meets its contract: the three answers are the three parts of the test.
+-- Assumes nothing.
+use borrow.Author.Needs.{needs}
+use Rattle.places.specs.Place.{ownPlace}
+use Rattle.places.proofs.own_place.Statement.{statement}
+use Rattle.places.proofs.own_place.Tie as tie
+
+shared-slice-read-sets-hold : tie.Need-shared-slice-read-sets-hold
+shared-slice-read-sets-hold c = search needs
+
+shared-slice-read-sets-hold-2 : tie.Need-shared-slice-read-sets-hold-2
+shared-slice-read-sets-hold-2 c = search needs
+
+sets-hold-requires : tie.Need-sets-hold-requires
+sets-hold-requires c κs = search needs
+
+height-in-requires : tie.Need-height-in-requires
+height-in-requires c κs = search needs
+
+height-holds-requires : tie.Need-height-holds-requires
+height-holds-requires c κs = search needs
+
+all-zero-requires : tie.Need-all-zero-requires
+all-zero-requires c κs = search needs
+
+returns : tie.Need-returns
+unfolding ownPlace
+returns c =
+    rw (
+      c .before .before .before .sets-hold .ensures,
+      c .before .height-holds .ensures,
+      c .before .before .height-in .ensures .0,
+      c .all-zero .ensures,
+    )
+
+pub own-place-spec : {M : Type 1} → statement M
+own-place-spec =
+    tie.close
+    (tie.spec
+    shared-slice-read-sets-hold
+    shared-slice-read-sets-hold-2
+    sets-hold-requires
+    height-in-requires
+    height-holds-requires
+    all-zero-requires
+    returns)

@@ -1,0 +1,2 @@
+-- The test of one place of the lent tables.
+pub mod Place

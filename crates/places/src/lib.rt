@@ -1,0 +1,88 @@
+// One place of the lent tables: the words that belong to a pair u, v, as a test.
+// `place_in` is a leaf: only our crates call it, with the bounds that `requires` states.
+ghost use mathlib.Core.Path.{_≡_};
+ghost use Prim.Native.Nat.{_≤_};
+ghost use lib.ListN.{length};
+ghost use Rattle.nodeset.specs.NodeSet.{member};
+ghost use Rattle.protocol.specs.Component.{Node};
+ghost use Rattle.protocol.specs.Functions.{all};
+ghost use Rattle.protocol.specs.Holds.{messageHolds};
+ghost use Rattle.tables.specs.Cell.{messagesAt};
+ghost use Rattle.tables.specs.Tables.{width, cellWidth};
+ghost use Rattle.places.specs.Place.{ownPlace, viewPlace, channelPlace, placeIn};
+
+mod heights;
+
+// Node v is in the set, whatever the word's other bits are.
+fn is_member(word: u32, v: u32) -> bool
+    requires { ⌜ v ≤ 16 ⌝ }
+    ensures { λ r. ⌜ r ≡ member word v ⌝ }
+{
+    nodeset::contains((word % 65536) as u16, v)
+}
+
+// The place u u.
+fn own_place(n: u32, u: u32, row: &[u32], cell: &[u32]) -> bool
+    requires { ⌜ (n ≤ 16) × Node n u × (length (now row) ≡ width n) × (length (now cell) ≡ cellWidth) ⌝ }
+    ensures { λ r. ⌜ r ≡ ownPlace n u (now (row .entry)) (now (cell .entry)) ⌝ }
+{
+    let sets = heights::sets_hold(n, u, row[1], row[2]);
+    let own = heights::height_holds(n, u, tables::rows::height_in(n, row, u));
+    let unused = tables::cells::all_zero(cell);
+    sets & own & unused
+}
+
+// The view of v.
+fn view_place(n: u32, v: u32, row: &[u32]) -> bool
+    requires { ⌜ (n ≤ 16) × Node n v × (length (now row) ≡ width n) ⌝ }
+    ensures { λ r. ⌜ r ≡ viewPlace n v (now (row .entry)) ⌝ }
+{
+    if is_member(row[1], v) {
+        return heights::height_holds(n, v, tables::rows::height_in(n, row, v));
+    }
+    let a = 3 + ((v - 1) as usize) * 7;
+    let e = a + 7;
+    tables::cells::all_zero(&row[a..e])
+}
+
+// The first `count` messages of a cell, of node u's.
+fn messages_hold(n: u32, u: u32, cell: &[u32], count: usize) -> bool
+    requires { ⌜ (count ≤ 8) × (length (now cell) ≡ cellWidth) ⌝ }
+    ensures { λ r. ⌜ r ≡ all (messageHolds n u) (messagesAt count (now (cell .entry)) 1) ⌝ }
+{
+    let mut k = 0;
+    while k < count {
+        let h = tables::cells::nth_height(cell, k);
+        if !heights::height_holds(n, u, h) {
+            return false;
+        }
+        k += 1;
+    }
+    true
+}
+
+// Channel u to v, beside u's row.
+fn channel_place(n: u32, u: u32, v: u32, row: &[u32], cell: &[u32]) -> bool
+    requires { ⌜ (n ≤ 16) × Node n v × (length (now row) ≡ width n) × (length (now cell) ≡ cellWidth) ⌝ }
+    ensures { λ r. ⌜ r ≡ channelPlace n u v (now (row .entry)) (now (cell .entry)) ⌝ }
+{
+    let waiting = tables::cells::waiting(cell);
+    if 8 < waiting {
+        return false;
+    }
+    let count = waiting as usize;
+    let fits = is_member(row[1], v) | is_member(row[2], v) | (waiting == 0);
+    let held = messages_hold(n, u, cell, count);
+    fits & held & tables::cells::is_unused_after(cell, count)
+}
+
+// The place of the pair u, v.
+pub fn place_in(n: u32, u: u32, v: u32, row: &[u32], cell: &[u32]) -> bool
+    requires { ⌜ (n ≤ 16) × Node n u × Node n v × (length (now row) ≡ width n) × (length (now cell) ≡ cellWidth) ⌝ }
+    ensures { λ r. ⌜ r ≡ placeIn n u v (now (row .entry)) (now (cell .entry)) ⌝ }
+{
+    if u == v {
+        return own_place(n, u, row, cell);
+    }
+    view_place(n, v, row) & channel_place(n, u, v, row, cell)
+}
