@@ -57,7 +57,7 @@ module _ (n : ℕ) (low : 1 ≤ n) (few : n ≤ 16) (s : State) (good : Good n s
   unfolding stepOn stepChecked stepAt
   own-call e = rw (sound-check n (s .network) fits (sound-holds n (s .network) (good .fits)) low few, load-back n (s .network) fits)
 
-  not-sized : (m : ℕ) → (m ≡ n → ⊥) → sized m (tablesOf n (s .network)) ≡ false
+  pub not-sized : (m : ℕ) → (m ≡ n → ⊥) → sized m (tablesOf n (s .network)) ≡ false
   unfolding sized
   not-sized m d =
       let size = tables-sized n (s .network) low few in
@@ -68,7 +68,7 @@ module _ (n : ℕ) (low : 1 ≤ n) (few : n ≤ 16) (s : State) (good : Good n s
   unfolding stepOn stepChecked
   other-call m e d = rw (sym (check-sizes m (tablesOf n (s .network)) (not-sized m d)))
 
-  one-call : (c : EventCall)
+  pub one-call : (c : EventCall)
       → stepOn (c .size) (c .event) (tablesOf n (s .network)) ≡ outcome (saidTo n s c) (tablesOf n (called n s c .network))
   unfolding advance
   one-call c = go (equal? (c .size) n)

@@ -7,7 +7,7 @@ use mathlib.Core.Logic.{_⊎_, inl, inr}
 use mathlib.Core.Path.{_≡_, refl, subst}
 use lib.Dec.{eqb, leb}
 use lib.ListN.{length}
-use borrow.Author.Tests.{leb-true, eqb-true, eqb-false}
+use borrow.Author.Tests.{leb-true, le-leb, eqb-true, eqb-false, eq-eqb}
 use Rattle.protocol.specs.Component.{Node}
 use Rattle.protocol.proofs.TestsLaws.{Choice, yes!, no!, choice, equal?, and-left, and-right}
 use Rattle.tables.specs.Tables.{Tables, sized, Sized, width, cellWidth}
@@ -29,6 +29,10 @@ sized-is n t e =
       nodes = eqb-true (length (t .nodes)) (n * width n) (and-right low nodes two);
       channels = eqb-true (length (t .channels)) (n * n * cellWidth) (and-right (low && nodes) channels rest);
     }
+
+pub is-sized : (n : ℕ) (t : Tables) → Sized n t → sized n t ≡ true
+unfolding sized
+is-sized n t s = rw (le-leb n 16 (s .few), le-leb 1 n (s .low), eq-eqb _ _ (s .nodes), eq-eqb _ _ (s .channels))
 
 module _ (n : ℕ) (t : Tables) where
   pub check-sizes : sized n t ≡ false → checked 1 0 0 ≡ checkOn n t

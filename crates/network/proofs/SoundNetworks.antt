@@ -31,6 +31,7 @@ use Rattle.tables.specs.Rows.{part, rowAt, rows}
 use Rattle.tables.specs.Tables.{Tables, Sized, sized, width, nodeOf, channelOf}
 use Rattle.tables.proofs.Back.{Storable, node-of, cell-of, set-back, node-height, queue-back, row-of, words-length, message-length, tables-sized}
 use Rattle.places.specs.Place.{ownPlace, viewPlace, channelPlace, placeIn}
+use Rattle.network.proofs.CheckLaws.{is-sized}
 use Rattle.network.specs.Check.{SaidCheck, checked, place, faultInRow, faultFrom, firstFault, checkOn}
 
 -- ---- zero words
@@ -223,10 +224,7 @@ module _ (n : ℕ) (p : Network) (ok : Storable n p) (holds : sound n p ≡ true
           (channel-back n p ok u a v b (and-right (viewHolds n p u v) (channelHolds n p u v) q)))
 
   sizes : sized n (tablesOf n p) ≡ true
-  unfolding sized
-  sizes =
-      let s = tables-sized n p low few in
-      rw (le-leb n 16 few, le-leb 1 n low, eq-eqb _ _ (s .nodes), eq-eqb _ _ (s .channels))
+  sizes = is-sized n (tablesOf n p) (tables-sized n p low few)
 
   pub sound-check : checkOn n (tablesOf n p) ≡ checked 0 0 0
   unfolding checkOn firstFault

@@ -50,19 +50,19 @@ same-bytes (x ∷ xs) (y ∷ ys) e =
 module _ (write : ℕ → Network → List ℕ) (read : ℕ → List ℕ → Reading) (n : ℕ)
     (back : (p : Network) → sound n p ≡ true → restrict n p ≡ p → read n (write n p) ≡ got p) where
   -- each save holds the image of a good state
-  data Kept : List Saved → Type 0 where
+  pub data Kept : List Saved → Type 0 where
     knil : Kept []
     kcons : {s : Saved} {ss : List Saved} → s .bytes ≡ write n (s .state .network) → Good n (s .state) → Kept ss → Kept (s ∷ ss)
 
-  record Sane (w : RunState) : Type 0 where
-    good : Good n (w .now)
-    kept : Kept (w .saves)
+  pub record Sane (w : RunState) : Type 0 where
+    pub good : Good n (w .now)
+    pub kept : Kept (w .saves)
 
-  record Found (b : List ℕ) (s : State) : Type 0 where
-    bytes-are : b ≡ write n (s .network)
-    good : Good n s
+  pub record Found (b : List ℕ) (s : State) : Type 0 where
+    pub bytes-are : b ≡ write n (s .network)
+    pub good : Good n s
 
-  found : (b : List ℕ) (ss : List Saved) → Kept ss → (s : State) → lastSave b ss ≡ savedAt s → Found b s
+  pub found : (b : List ℕ) (ss : List Saved) → Kept ss → (s : State) → lastSave b ss ≡ savedAt s → Found b s
   found b [] k s e = let z : _≡_ {A = ℕ} 0 1 = cc in absurd (omega arith)
   found b (x ∷ ss) (kcons i g k) s e = go (found b ss k s) (choice (sameBytes b (x .bytes)))
     where
@@ -74,13 +74,13 @@ module _ (write : ℕ → Network → List ℕ) (read : ℕ → List ℕ → Rea
       go ih (no! z) = ih (rw z at e)
 
   -- reading the bytes of an earlier save gives the network at that save
-  read-saved : (w : RunState) (b : List ℕ) (s : State) → Sane w → lastSave b (w .saves) ≡ savedAt s → read n b ≡ got (s .network)
+  pub read-saved : (w : RunState) (b : List ℕ) (s : State) → Sane w → lastSave b (w .saves) ≡ savedAt s → read n b ≡ got (s .network)
   read-saved w b s sane e =
       let f = found b (w .saves) (sane .kept) s e in
       ap (read n) (f .bytes-are)
       ∙ back (s .network) (sound-holds n (s .network) (f .good .fits)) (restrict-is n (s .network) (f .good .fits))
 
-  act-sane : (w : RunState) (c : Call) → Sane w → Fair write read n w c → Sane (act write read n w c)
+  pub act-sane : (w : RunState) (c : Call) → Sane w → Fair write read n w c → Sane (act write read n w c)
   act-sane w c s (fairEvent m e) =
       byCases Sane (eqb m n) _ w (λ i. record { good = good-advance n (w .now) e (s .good); kept = s .kept }) (λ i. s)
   act-sane w c s (fairSave m room) =
@@ -90,11 +90,11 @@ module _ (write : ℕ → Network → List ℕ) (read : ℕ → List ℕ → Rea
   act-sane w c s (fairSaved b t e) =
       rw (read-saved w b t s e, e) (record { good = found b (w .saves) (s .kept) t e .good; kept = s .kept })
 
-  perform-sane : (w : RunState) (cs : List Call) → Sane w → AllFair write read n w cs → Sane (perform write read n w cs)
+  pub perform-sane : (w : RunState) (cs : List Call) → Sane w → AllFair write read n w cs → Sane (perform write read n w cs)
   perform-sane w cs s fairNil = s
   perform-sane w cs s (fairCons {c = c} {cs = rest} f fs) = perform-sane (act write read n w c) rest (act-sane w c s f) fs
 
-  run-sane : (cs : List Call) → AllFair write read n startOfRun cs → Sane (perform write read n startOfRun cs)
+  pub run-sane : (cs : List Call) → AllFair write read n startOfRun cs → Sane (perform write read n startOfRun cs)
   run-sane cs fair = perform-sane startOfRun cs (record { good = good-started n; kept = knil }) fair
 
   -- after every list of calls

@@ -1,0 +1,101 @@
+-- Messages end to end and the bits of one channel: their lengths, what is read of them, and the place behind them.
+-- Assumes that the messages are AllSound, where they are read back.
+use Prim.Native.Nat.{ℕ, zero, suc, _+_, _*_, _≤_}
+use native.Mathlib.Nat.{suc-mul, zero-mul}
+use native.Mathlib.Omega.{arith}
+use mathlib.Core.Path.{_≡_, refl, ap, ap₂, _∙_}
+use mathlib.Core.Bool.{true, false}
+use mathlib.Core.List.{List, [], _∷_, _++_, append-assoc}
+use lib.Dec.{eqb}
+use lib.ListN.{length, take, drop, length-append}
+use lib.Seq.{drop-at}
+use Rattle.bits.specs.Bits.{bits, total}
+use Rattle.bits.proofs.Numbers.{Below, below-nil, below-append, below-bits}
+use Rattle.protocol.proofs.TestsLaws.{Choice, yes!, no!, choice}
+use Rattle.image.specs.Image.{messageBits, channelBits}
+use Rattle.image.specs.Places.{fieldIn, messagesOf, channelNext}
+use Rattle.image.specs.Records.{Records}
+use Rattle.image.specs.Widths.{widthsOf, recordBits, recordOf, heightWidth, messageWidth}
+use Rattle.image.proofs.RecordLaws.{Sound, length-record-bits, record-of-bits, below-record}
+
+-- ---- the widths
+
+pub total-height : (d : ℕ) → total (take 7 (widthsOf d)) ≡ heightWidth d
+unfolding total heightWidth
+total-height d = omega arith
+
+pub total-message : (d : ℕ) → total (take 8 (widthsOf d)) ≡ messageWidth d
+unfolding total messageWidth
+total-message d = omega arith
+
+pub length-height : (d : ℕ) (ws : List ℕ) → length ws ≡ 7 → length (recordBits d ws) ≡ heightWidth d
+length-height d ws e = length-record-bits d 7 (omega arith) ws e ∙ total-height d
+
+pub length-message : (d : ℕ) (ws : List ℕ) → length ws ≡ 8 → length (recordBits d ws) ≡ messageWidth d
+length-message d ws e = length-record-bits d 8 (omega arith) ws e ∙ total-message d
+
+-- ---- messages
+
+pub data AllSound (d : ℕ) : List (List ℕ) → Type 0 where
+  none : AllSound d []
+  more : {m : List ℕ} {ms : List (List ℕ)} → length m ≡ 8 → Sound d m → AllSound d ms → AllSound d (m ∷ ms)
+
+pub length-messages : (d : ℕ) (ms : List (List ℕ)) → AllSound d ms → length (messageBits d ms) ≡ length ms * messageWidth d
+unfolding messageBits
+length-messages d [] none = omega (arith, zero-mul (messageWidth d))
+length-messages d (m ∷ ms) (more e s r) =
+    length-append (recordBits d m) (messageBits d ms)
+    ∙ omega (arith, length-message d m e, length-messages d ms r, suc-mul (length ms) (messageWidth d))
+
+pub messages-read : (d : ℕ) → 1 ≤ d → d ≤ 32 → (ms : List (List ℕ)) (t : List ℕ) → AllSound d ms → messagesOf d (length ms) (messageBits d ms ++ t) ≡ ms
+unfolding messageBits messagesOf
+messages-read d one wide [] t none = refl
+messages-read d one wide (m ∷ ms) t (more e s r) =
+    let a : (recordBits d m ++ messageBits d ms) ++ t ≡ recordBits d m ++ (messageBits d ms ++ t) =
+    append-assoc (recordBits d m) (messageBits d ms) t in
+    ap₂ (λ (x : List ℕ) (y : List (List ℕ)). x ∷ y)
+    (ap (recordOf d 8) a ∙ record-of-bits d 8 one wide (omega arith) (omega arith) m (messageBits d ms ++ t) e s)
+    (ap (λ (x : List ℕ). messagesOf d (length ms) (drop (messageWidth d) x)) a
+    ∙ ap (messagesOf d (length ms)) (drop-at (recordBits d m) (messageBits d ms ++ t) (messageWidth d) (length-message d m e))
+    ∙ messages-read d one wide ms t r)
+
+pub length-messages-of : (d c : ℕ) (t : List ℕ) → length (messagesOf d c t) ≡ c
+unfolding messagesOf
+length-messages-of d zero t = refl
+length-messages-of d (suc c) t = ap suc (length-messages-of d c (drop (messageWidth d) t))
+
+pub below-messages : (d : ℕ) (ms : List (List ℕ)) → Below 2 (messageBits d ms)
+unfolding messageBits
+below-messages d [] = below-nil 2 (omega arith)
+below-messages d (m ∷ ms) = below-append 2 (recordBits d m) (messageBits d ms) (below-record d m) (below-messages d ms)
+
+-- ---- one channel
+
+pub channel-same : (d : ℕ) (r : Records) (u v : ℕ) → eqb u v ≡ true → channelBits d r u v ≡ []
+unfolding channelBits
+channel-same d r u v e = rw e
+
+pub channel-other : (d : ℕ) (r : Records) (u v : ℕ) → eqb u v ≡ false
+    → channelBits d r u v ≡ bits 4 (length (r .channel u v)) ++ messageBits d (r .channel u v)
+unfolding channelBits
+channel-other d r u v e = rw e
+
+pub next-same : (d : ℕ) (l : List ℕ) (u v q : ℕ) → eqb u v ≡ true → channelNext d l u v q ≡ q
+unfolding channelNext
+next-same d l u v q e = rw e
+
+pub next-other : (d : ℕ) (l : List ℕ) (u v q : ℕ) → eqb u v ≡ false → channelNext d l u v q ≡ q + 4 + fieldIn l q 4 * messageWidth d
+unfolding channelNext
+next-other d l u v q e = rw e
+
+pub below-channel : (d : ℕ) (r : Records) (u v : ℕ) → Below 2 (channelBits d r u v)
+below-channel d r u v = go (choice (eqb u v))
+  where
+    ms : List (List ℕ)
+    ms = r .channel u v
+
+    go : Choice (eqb u v) → Below 2 (channelBits d r u v)
+    go (yes! e) = rw (channel-same d r u v e) (below-nil 2 (omega arith))
+    go (no! e) =
+        rw (channel-other d r u v e)
+        (below-append 2 (bits 4 (length ms)) (messageBits d ms) (below-bits 4 (length ms)) (below-messages d ms))

@@ -1,0 +1,91 @@
+-- `image::rows::put_row` meets its contract. Assumes nothing.
+use Prim.Native.Nat.{_-_, _*_}
+use native.Mathlib.Omega.{arith}
+use mathlib.Core.Path.{_≡_, _∙_}
+use lib.ListN.{length, take, drop}
+use Rattle.image.specs.Widths.{nodeWidth}
+use Rattle.image.proofs.PartTurns.{behind-sets}
+use Rattle.image.proofs.PartCalls.{rest-length, inside-after, row-put}
+use borrow.Author.Needs.{needs}
+use Rattle.image.proofs.rows.put_row.Statement.{statement}
+use Rattle.image.proofs.rows.put_row.Tie as tie
+
+shared-slice-read-put : tie.Need-shared-slice-read-put
+shared-slice-read-put c = search needs
+
+put-requires : tie.Need-put-requires
+unfolding nodeWidth
+put-requires c κs = omega arith
+
+add-put : tie.Need-add-put
+add-put c = search needs
+
+shared-slice-read-put-2 : tie.Need-shared-slice-read-put-2
+shared-slice-read-put-2 c = search needs
+
+put-requires-2 : tie.Need-put-requires-2
+unfolding nodeWidth
+put-requires-2 c κs = omega arith
+
+add-put-2 : tie.Need-add-put-2
+add-put-2 c = search needs
+
+shared-slice-read-put-3 : tie.Need-shared-slice-read-put-3
+shared-slice-read-put-3 c = search needs
+
+put-requires-3 : tie.Need-put-requires-3
+unfolding nodeWidth
+put-requires-3 c κs = omega arith
+
+add-put-heights : tie.Need-add-put-heights
+add-put-heights c = search needs
+
+sub-put-heights : tie.Need-sub-put-heights
+sub-put-heights c = search needs
+
+part-put-heights-start : tie.Need-part-put-heights-start
+part-put-heights-start c = search needs
+
+part-put-heights-end : tie.Need-part-put-heights-end
+part-put-heights-end c = search needs
+
+put-heights-requires : tie.Need-put-heights-requires
+put-heights-requires c κs =
+    let third = c .before .before .before .before in
+    let s = third .before .before .before .before .before .before .before .before .before .before .before .before .before .before .before in
+    let row = s .args .row .now in
+    let len : length (take (length row - 3) (drop 3 row)) ≡ s .args .n * 7 = rest-length 3 row ∙ omega arith in
+    let same : length (third .put3 .last .0) ≡ length (s .args .buf .now) = omega arith in
+    (s .pre .0, s .pre .1, len, inside-after same (behind-sets (s .args .depth) (s .args .n) (s .pre .3)))
+
+same-length : tie.Need-same-length
+same-length c = search needs
+
+returns : tie.Need-returns
+returns c =
+    let third = c .before .before .before .before .before .before .before in
+    let second = third .before .before .before .before .before in
+    let first = second .before .before .before .before .before in
+    let s = first .before .before .before .before .before in
+    row-put (s .args .depth) (s .args .n) (s .args .row .now) (s .args .buf .now) _ _ _ _ (s .args .at) (s .pre .2) (s .pre .3)
+    (first .put .ensures) (second .put2 .ensures) (third .put3 .ensures) (c .before .before .put-heights .ensures)
+
+pub put-row-spec : {M : Type 1} → statement M
+put-row-spec =
+    tie.close
+    (tie.spec
+    shared-slice-read-put
+    put-requires
+    add-put
+    shared-slice-read-put-2
+    put-requires-2
+    add-put-2
+    shared-slice-read-put-3
+    put-requires-3
+    add-put-heights
+    sub-put-heights
+    part-put-heights-start
+    part-put-heights-end
+    put-heights-requires
+    same-length
+    returns)

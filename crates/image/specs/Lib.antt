@@ -1,0 +1,6 @@
+-- The image of a network: records, their widths and places, and the bytes.
+pub mod Widths
+pub mod Records
+pub mod Image
+pub mod Places
+pub mod Parts

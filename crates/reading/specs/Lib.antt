@@ -1,0 +1,6 @@
+-- The reader's checks, and what it reads.
+pub mod Header
+pub mod Walk
+pub mod Cells
+pub mod Examine
+pub mod Search

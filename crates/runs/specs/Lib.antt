@@ -1,0 +1,3 @@
+-- Lists of calls with saves and restores.
+pub mod Images
+pub mod OnTables

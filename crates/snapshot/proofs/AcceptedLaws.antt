@@ -1,0 +1,134 @@
+-- What an accepted restore shows of its bytes: header, walk, end and contents, and the tables afterwards.
+-- Assumes nothing.
+use Prim.Native.Nat.{ℕ, _+_, _-_, _*_, _≤_, _<_}
+use native.Mathlib.Omega.{arith}
+use mathlib.Core.Bool.{Bool, true, false, cond, _&&_}
+use mathlib.Core.List.{List}
+use mathlib.Core.Path.{_≡_, refl, sym, ap, _∙_}
+use borrow.Author.Tests.{eqb-true, eqb-false, leb-true, ltb-true, ltb-false}
+use lib.Dec.{eqb, leb, ltb}
+use lib.ListN.{length, drop}
+use Rattle.bits.specs.Bits.{field, number, unpacked}
+use Rattle.image.specs.Places.{imageEnd, tablesIn}
+use Rattle.network.specs.Check.{SaidCheck, checked, firstFault}
+use Rattle.network.specs.Fresh.{Filled, filled}
+use Rattle.protocol.proofs.TestsLaws.{Choice, yes!, no!, choice, and-left, and-right}
+use Rattle.reading.specs.Examine.{Walkable, afterWalk, examined}
+use Rattle.reading.specs.Header.{fieldsOf, headerHolds, headerOf}
+use Rattle.reading.specs.Walk.{walk, endsAt}
+use Rattle.reading.specs.declared.Header.{Header}
+use Rattle.reading.specs.declared.Header.the-variants.{Good, Short, Wrong}
+use Rattle.reading.specs.declared.Walk.{Walk}
+use Rattle.reading.specs.declared.Walk.the-variants.{At, Over, Cut}
+use Rattle.reading.proofs.WalkLaws.{walk-accepted}
+use Rattle.tables.specs.Tables.{Tables, sized}
+use Rattle.snapshot.specs.Restore.{restoreExamined, restoreOf, restoreHeaded, restoreOn}
+
+-- ---- the header
+
+pub record HeaderGood (xs : List ℕ) : Type 0 where
+  pub long : 4 ≤ length xs
+  pub version : field xs 0 4 ≡ 1
+  pub header : field xs 4 12 ≡ 32
+  pub low : 1 ≤ field xs 16 5
+  pub few : field xs 16 5 ≤ 16
+  pub spare : field xs 21 11 ≡ 0
+  pub is : headerOf xs ≡ Good (fieldsOf xs)
+
+pub data HeaderCase (xs : List ℕ) : Header → Type 0 where
+  isShort : HeaderCase xs Short
+  isWrong : HeaderCase xs Wrong
+  isGood : HeaderGood xs → HeaderCase xs (Good (fieldsOf xs))
+
+pub header-case : (xs : List ℕ) → HeaderCase xs (headerOf xs)
+unfolding headerOf headerHolds
+header-case xs = go (choice (ltb (length xs) 4)) (choice (headerHolds 1 32 xs))
+  where
+    go : Choice (ltb (length xs) 4) → Choice (headerHolds 1 32 xs) → HeaderCase xs (headerOf xs)
+    go (yes! e) b = rw e isShort
+    go (no! e) (no! f) = rw (e, f) isWrong
+    go (no! e) (yes! f) =
+        let a = eqb (field xs 0 4) 1 in
+        let b = eqb (field xs 4 12) 32 in
+        let c = leb 1 (field xs 16 5) in
+        let d = leb (field xs 16 5) 16 in
+        let z = eqb (field xs 21 11) 0 in
+        let abc = and-left (a && b && (c && d)) z f in
+        let ab = and-left (a && b) (c && d) abc in
+        let cd = and-right (a && b) (c && d) abc in
+        let q : headerOf xs ≡ Good (fieldsOf xs) = rw (e, f) in
+        rw q
+        (isGood
+        (record {
+          long = ltb-false (length xs) 4 e;
+          version = eqb-true (field xs 0 4) 1 (and-left a b ab);
+          header = eqb-true (field xs 4 12) 32 (and-right a b ab);
+          low = leb-true 1 (field xs 16 5) (and-left c d cd);
+          few = leb-true (field xs 16 5) 16 (and-right c d cd);
+          spare = eqb-true (field xs 21 11) 0 (and-right (a && b && (c && d)) z f);
+          is = q;
+        }))
+
+-- ---- the checks behind it
+
+pub record ExaminedGood (n : ℕ) (l : List ℕ) : Type 0 where
+  pub walks : walk 32 16 n l ≡ At (imageEnd 32 16 n l)
+  pub walkable : Walkable 32 16 n l
+  pub no-more : length l < imageEnd 32 16 n l + 8
+  pub pad : number (drop (imageEnd 32 16 n l) l) ≡ 0
+  pub sound : firstFault n (tablesIn 32 16 n l) .number ≡ 0
+
+pub examined-good : (n : ℕ) (l : List ℕ) → n ≤ 16 → examined 32 16 n l .number ≡ 0 → ExaminedGood n l
+unfolding examined afterWalk endsAt
+examined-good n l few zero = go (walk 32 16 n l) refl zero
+  where
+    good : (q : ℕ) → walk 32 16 n l ≡ At q → Choice (endsAt l q) → cond (endsAt l q) (firstFault n (tablesIn 32 16 n l)) (checked 12 0 0) .number ≡ 0
+        → ExaminedGood n l
+    good q w (no! e) z = let y : _≡_ {A = ℕ} 12 0 = rw e at z in absurd (omega arith)
+    good q w (yes! e) z =
+        let both = walk-accepted 32 16 n l q (omega arith) (omega arith) few w in
+        let near = ltb-true (length l) (q + 8) (and-left (ltb (length l) (q + 8)) (eqb (number (drop q l)) 0) e) in
+        let pad = eqb-true (number (drop q l)) 0 (and-right (ltb (length l) (q + 8)) (eqb (number (drop q l)) 0) e) in
+        record {
+          walks = rw (← both .0) w;
+          walkable = both .1;
+          no-more = rw (← both .0) near;
+          pad = rw (← both .0) pad;
+          sound = rw e at z;
+        }
+
+    go : (w : Walk) → walk 32 16 n l ≡ w → afterWalk 32 16 n l w .number ≡ 0 → ExaminedGood n l
+    go (At q) e z = good q e (choice (endsAt l q)) z
+    go (Over u v) e z = absurd (omega arith)
+    go Cut e z = absurd (omega arith)
+
+-- ---- an accepted restore
+
+pub record RestoreGood (xs : List ℕ) (t : Tables) : Type 0 where
+  pub header : HeaderGood xs
+  pub fit : sized (field xs 16 5) t ≡ true
+  pub contents : ExaminedGood (field xs 16 5) (unpacked xs)
+  pub after-is : restoreOn xs t .after ≡ tablesIn 32 16 (field xs 16 5) (unpacked xs)
+
+pub restore-good : (xs : List ℕ) (t : Tables) → restoreOn xs t .said .number ≡ 0 → RestoreGood xs t
+unfolding restoreOn restoreHeaded restoreOf restoreExamined
+restore-good xs t zero = go (headerOf xs) (header-case xs) refl zero
+  where
+    good : HeaderGood xs → Choice (sized (field xs 16 5) t) → Choice (eqb (examined 32 16 (field xs 16 5) (unpacked xs) .number) 0)
+        → restoreOf (field xs 16 5) (unpacked xs) t .said .number ≡ 0 → RestoreGood xs t
+    good h (no! e) b z = let y : _≡_ {A = ℕ} 1 0 = rw e at z in absurd (omega arith)
+    good h (yes! e) (no! f) z =
+        let y : examined 32 16 (field xs 16 5) (unpacked xs) .number ≡ 0 = rw (e, f) at z in
+        absurd (eqb-false (examined 32 16 (field xs 16 5) (unpacked xs) .number) 0 f y)
+    good h (yes! e) (yes! f) z = record {
+      header = h;
+      fit = e;
+      contents = examined-good (field xs 16 5) (unpacked xs) (h .few) (eqb-true (examined 32 16 (field xs 16 5) (unpacked xs) .number) 0 f);
+      after-is = rw (h .is, e, f);
+    }
+
+    go : (h : Header) → HeaderCase xs h → headerOf xs ≡ h → restoreHeaded (unpacked xs) t h .said .number ≡ 0 → RestoreGood xs t
+    go h isShort e z = absurd (omega arith)
+    go h isWrong e z = absurd (omega arith)
+    go h (isGood g) e z =
+        good g (choice (sized (field xs 16 5) t)) (choice (eqb (examined 32 16 (field xs 16 5) (unpacked xs) .number) 0)) z

@@ -1,0 +1,11 @@
+-- Laws of saving and restoring.
+pub mod ImageLaws
+pub mod RestoreSaved
+pub mod AcceptedLaws
+pub mod SameImage
+pub mod RestoreAny
+pub mod NodePlaces
+pub mod SaveLaws
+pub mod LookLaws
+pub mod SaveRestored
+pub mod RestoreLaws

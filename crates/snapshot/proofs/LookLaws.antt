@@ -1,0 +1,126 @@
+-- One node at a saved place: where its record starts, what is read there, and the call by what header and checks answer.
+-- Assumes at most 16 nodes.
+use Prim.Native.Nat.{ℕ, suc, _+_, _-_, _*_, _^_, _≤_, _<_}
+use native.Mathlib.Omega.{arith}
+use mathlib.Core.Bool.{Bool, true, false, _&&_, _||_}
+use mathlib.Core.List.{List, [], _∷_}
+use mathlib.Core.Path.{_≡_, refl, sym, ap, _∙_}
+use borrow.Author.Tests.{eq-eqb, ne-eqb, leb-true, ltb-false, le-ltb}
+use lib.Dec.{eqb, leb, ltb}
+use lib.ListN.{length}
+use types.Run.{miss}
+use Rattle.bits.specs.Bits.{unpacked}
+use Rattle.bits.proofs.Bytes.{length-unpacked}
+use Rattle.height.proofs.OrderLaws.{clash}
+use Rattle.image.specs.Parts.{Inside}
+use Rattle.image.specs.Places.{nodePlace, channelsPlace}
+use Rattle.image.specs.Widths.{nodeWidth}
+use Rattle.image.proofs.PlaceLaws.{node-in, start-in}
+use Rattle.network.specs.Check.{checked}
+use Rattle.protocol.specs.Component.{Node}
+use Rattle.protocol.specs.Network.{isNode}
+use Rattle.protocol.proofs.TestsLaws.{Choice, yes!, no!, choice, and-left, and-right}
+use Rattle.reading.specs.Examine.{Walkable, saidExamined, examined}
+use Rattle.reading.specs.Header.{headerOf}
+use Rattle.reading.specs.declared.Examined.{Examined}
+use Rattle.reading.specs.declared.Examined.the-variants.{Sound, Fault, BadEnd}
+use Rattle.reading.specs.declared.Fields.{Fields}
+use Rattle.reading.specs.declared.Header.{Header}
+use Rattle.reading.specs.declared.Header.the-variants.{Good, Short, Wrong}
+use Rattle.tables.proofs.RowsLaws.{product-le}
+use Rattle.tables.proofs.TablesLaws.{is-node}
+use Rattle.snapshot.specs.ReadNode.{looked, refusedNode, nodeAt, nodePlaced, nodeExamined, nodeHeaded, readNodeOn}
+use Rattle.snapshot.specs.Restore.{saidHeader}
+use Rattle.snapshot.proofs.RestoreLaws.{Refused}
+
+-- the records before one of 16 nodes take few bits
+pub before-small : (n k : ℕ) → n ≤ 16 → 1 ≤ k → k ≤ n → (k - 1) * (64 + 96 * n) ≤ 24000
+before-small n k few low high =
+    let w : 64 + 96 * n ≤ 1600 = omega arith in
+    let i : k - 1 ≤ 15 = omega arith in
+    product-le (k - 1) (64 + 96 * n) i w
+
+-- the first 64 bits of a record that stands inside the bytes
+pub head-inside : (xs : List ℕ) (at n : ℕ) → Inside xs at (nodeWidth 16 n) → (at + 64 < 2 ^ 32) × (at + 64 ≤ 8 * length xs)
+unfolding nodeWidth
+head-inside xs at n h = (omega (arith, h .small), omega (arith, h .inside))
+
+pub node-is : (n k : ℕ) → (ltb k 1 || ltb n k) ≡ false → Node n k
+node-is n k e = go (choice (ltb k 1)) (choice (ltb n k))
+  where
+    go : Choice (ltb k 1) → Choice (ltb n k) → Node n k
+    go (yes! a) b = clash refl (rw a at e)
+    go (no! a) (yes! b) = clash refl (rw (a, b) at e)
+    go (no! a) (no! b) = record { low = ltb-false k 1 a; high = ltb-false n k b }
+
+-- ---- by what the header and the checks answer
+
+pub node-refused : (xs : List ℕ) (k place : ℕ) (row : List ℕ) (h : Header) → h ≡ headerOf xs → Refused h
+    → looked (refusedNode (saidHeader h)) row ≡ readNodeOn xs k place row
+unfolding readNodeOn nodeHeaded
+node-refused xs k place row h e s = go h s ∙ ap (nodeHeaded (unpacked xs) k place row) e
+  where
+    go : (h : Header) → Refused h → looked (refusedNode (saidHeader h)) row ≡ nodeHeaded (unpacked xs) k place row h
+    go (Good f) s = absurd (miss (1 ∷ 2 ∷ []) 0 tt s)
+    go Short s = refl
+    go Wrong s = refl
+
+pub node-headed : (xs : List ℕ) (k place : ℕ) (row : List ℕ) {h : Header} → h ≡ headerOf xs → {f : Fields} → h ≡ Good f
+    → nodeHeaded (unpacked xs) k place row (Good f) ≡ readNodeOn xs k place row
+unfolding readNodeOn
+node-headed xs k place row e q = ap (nodeHeaded (unpacked xs) k place row) (sym q ∙ e)
+
+module _ (f : Fields) (l : List ℕ) (k place : ℕ) (row : List ℕ) where
+  pub node-sizes : (length row ≡ f .n * 7 → ⊥) → looked (refusedNode (checked 1 0 0)) row ≡ nodeHeaded l k place row (Good f)
+  unfolding nodeHeaded
+  node-sizes d = rw (ne-eqb (length row) (f .n * 7) d)
+
+  module _ (wide : length row ≡ f .n * 7) {r : Examined} (answers : saidExamined r ≡ examined 32 16 (f .n) l) where
+    by : {x : Examined} → r ≡ x → nodeExamined f l k place row (saidExamined x) ≡ nodeHeaded l k place row (Good f)
+    unfolding nodeHeaded
+    by h = rw (eq-eqb (length row) (f .n * 7) wide, ← answers, h)
+
+    pub node-fault : {u v : ℕ} → r ≡ Fault u v → looked (refusedNode (checked 2 u v)) row ≡ nodeHeaded l k place row (Good f)
+    unfolding nodeExamined
+    node-fault h = by h
+
+    pub node-end : r ≡ BadEnd → looked (refusedNode (checked 12 0 0)) row ≡ nodeHeaded l k place row (Good f)
+    unfolding nodeExamined
+    node-end h = by h
+
+    pub node-sound : r ≡ Sound → nodePlaced f l k place row ≡ nodeHeaded l k place row (Good f)
+    unfolding nodeExamined
+    node-sound h = by h
+
+  -- ---- then 3 and 13
+
+  pub not-node : (ltb k 1 || ltb (f .n) k) ≡ true → looked (refusedNode (checked 3 0 0)) row ≡ nodePlaced f l k place row
+  unfolding nodePlaced
+  not-node e = go (choice (isNode (f .n) k))
+    where
+      go : Choice (isNode (f .n) k) → looked (refusedNode (checked 3 0 0)) row ≡ nodePlaced f l k place row
+      go (no! q) = rw q
+      go (yes! q) =
+          let a = leb-true 1 k (and-left (leb 1 k) (leb k (f .n)) q) in
+          let b = leb-true k (f .n) (and-right (leb 1 k) (leb k (f .n)) q) in
+          clash (rw (le-ltb k 1 a, le-ltb (f .n) k b) at e) refl
+
+  module _ (node : Node (f .n) k) where
+    pub not-place : (place ≡ nodePlace (f .length) 16 (f .n) k → ⊥) → looked (refusedNode (checked 13 0 0)) row ≡ nodePlaced f l k place row
+    unfolding nodePlaced
+    not-place d = rw (is-node (f .n) k node, ne-eqb place (nodePlace (f .length) 16 (f .n) k) d)
+
+    pub at-place : (at : ℕ) → at ≡ nodePlace (f .length) 16 (f .n) k → place ≡ at → nodeAt (f .n) l at ≡ nodePlaced f l k place row
+    unfolding nodePlaced
+    at-place at e q = rw (is-node (f .n) k node, eq-eqb place (nodePlace (f .length) 16 (f .n) k) (q ∙ e), q)
+
+-- the record of node k stands inside an image that was walked
+pub record-inside : (xs : List ℕ) (n k at : ℕ) → Walkable 32 16 n (unpacked xs) → Node n k → at ≡ nodePlace 32 16 n k → Inside xs at (nodeWidth 16 n)
+record-inside xs n k at w node e =
+    let z : suc (k - 1) ≡ k = omega (arith, node .low) in
+    let a : nodePlace 32 16 n k + nodeWidth 16 n ≤ channelsPlace 32 16 n = rw z at (node-in 32 16 n (k - 1) (omega (arith, node .low, node .high))) in
+    let b = start-in 32 16 n (unpacked xs) in
+    record {
+      small = omega (arith, a, b, w .small, e);
+      inside = omega (arith, a, b, w .inside, e, length-unpacked xs);
+    }

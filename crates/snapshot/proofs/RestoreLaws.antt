@@ -1,0 +1,95 @@
+-- A restore by what the header, the sizes and the checks answer: 10, 11, 1, 2, 12, or the tables of the image's records.
+-- Assumes nothing.
+use Prim.Native.Nat.{ℕ, _≤_}
+use native.Mathlib.Omega.{arith}
+use mathlib.Core.Bool.{Bool, true, false, not}
+use mathlib.Core.List.{List, [], _∷_}
+use mathlib.Core.Path.{_≡_, refl, sym, ap, _∙_}
+use denote.Enum.Declared.{tagOf}
+use types.Run.{OneOf, miss}
+use Rattle.bits.specs.Bits.{unpacked}
+use Rattle.height.proofs.OrderLaws.{clash}
+use Rattle.image.specs.Places.{tablesIn}
+use Rattle.network.specs.Check.{SaidCheck, checked}
+use Rattle.network.specs.Fresh.{filled}
+use Rattle.network.proofs.CheckLaws.{sized-is}
+use Rattle.reading.specs.Examine.{Walkable, saidExamined, examined}
+use Rattle.reading.specs.Header.{fieldsOf, headerOf}
+use Rattle.reading.specs.declared.Examined.{Examined}
+use Rattle.reading.specs.declared.Examined.the-variants.{Sound, Fault, BadEnd}
+use Rattle.reading.specs.declared.Fields.{Fields}
+use Rattle.reading.specs.declared.Header.{Header}
+use Rattle.reading.specs.declared.Header.the-variants.{Good, Short, Wrong}
+use Rattle.reading.proofs.Header as declared
+use Rattle.tables.specs.Tables.{Tables, Sized, sized}
+use Rattle.snapshot.specs.Restore.{saidHeader, restoreExamined, restoreOf, restoreHeaded, restoreOn}
+use Rattle.snapshot.proofs.AcceptedLaws.{HeaderGood, HeaderCase, isShort, isWrong, isGood, header-case, examined-good}
+
+-- ---- the header
+
+-- one that `let .. else` turns away
+abbrev pub Refused : Header → Type 0
+Refused h = OneOf (1 ∷ 2 ∷ []) (tagOf declared.the-type h)
+
+pub headed-refused : (xs : List ℕ) (t : Tables) (h : Header) → h ≡ headerOf xs → Refused h → filled (saidHeader h) t ≡ restoreOn xs t
+unfolding restoreOn restoreHeaded
+headed-refused xs t h e k = go h k ∙ ap (restoreHeaded (unpacked xs) t) e
+  where
+    go : (h : Header) → Refused h → filled (saidHeader h) t ≡ restoreHeaded (unpacked xs) t h
+    go (Good f) k = absurd (miss (1 ∷ 2 ∷ []) 0 tt k)
+    go Short k = refl
+    go Wrong k = refl
+
+pub headed-good : (xs : List ℕ) (t : Tables) {h : Header} → h ≡ headerOf xs → {f : Fields} → h ≡ Good f → restoreOf (f .n) (unpacked xs) t ≡ restoreOn xs t
+unfolding restoreOn restoreHeaded
+headed-good xs t e q = ap (restoreHeaded (unpacked xs) t) (sym q ∙ e)
+
+pub record GoodFields (f : Fields) : Type 0 where
+  pub length-is : f .length ≡ 32
+  pub low : 1 ≤ f .n
+  pub few : f .n ≤ 16
+
+pub good-fields : (xs : List ℕ) {h : Header} → h ≡ headerOf xs → {f : Fields} → h ≡ Good f → GoodFields f
+good-fields xs {h} e {f} q = go (headerOf xs) (header-case xs) (sym q ∙ e)
+  where
+    go : (x : Header) → HeaderCase xs x → Good f ≡ x → GoodFields f
+    go x isShort z = let y : _≡_ {A = ℕ} 0 1 = cc in absurd (omega arith)
+    go x isWrong z = let y : _≡_ {A = ℕ} 0 1 = cc in absurd (omega arith)
+    go x (isGood g) z =
+        let same : f ≡ fieldsOf xs = cc in
+        rw same (record { length-is = g .header; low = g .low; few = g .few })
+
+-- ---- behind it
+
+pub not-true : (b : Bool) {c : Bool} → b ≡ c → not b ≡ true → c ≡ false
+not-true true e q = clash q refl
+not-true false e q = sym e
+
+pub not-false : (b : Bool) {c : Bool} → b ≡ c → not b ≡ false → c ≡ true
+not-false true e q = sym e
+not-false false e q = clash refl q
+
+module _ (n : ℕ) (l : List ℕ) {r : Examined} (answers : saidExamined r ≡ examined 32 16 n l) where
+  said : {x : Examined} → r ≡ x → examined 32 16 n l ≡ saidExamined x
+  said h = sym answers ∙ ap saidExamined h
+
+  -- nothing is at fault: all stands inside the image
+  pub sound-walks : n ≤ 16 → r ≡ Sound → Walkable 32 16 n l
+  sound-walks few h = examined-good n l few (ap (λ (c : SaidCheck). c .number) (said h)) .walkable
+
+  module _ (t : Tables) (fit : sized n t ≡ true) where
+    pub of-fault : {u v : ℕ} → r ≡ Fault u v → filled (checked 2 u v) t ≡ restoreOf n l t
+    unfolding restoreOf restoreExamined
+    of-fault h = rw (fit, said h)
+
+    pub of-end : r ≡ BadEnd → filled (checked 12 0 0) t ≡ restoreOf n l t
+    unfolding restoreOf restoreExamined
+    of-end h = rw (fit, said h)
+
+    pub of-done : r ≡ Sound → filled (checked 0 0 0) (tablesIn 32 16 n l) ≡ restoreOf n l t
+    unfolding restoreOf restoreExamined
+    of-done h = rw (fit, said h)
+
+pub of-sizes : (n : ℕ) (l : List ℕ) (t : Tables) → sized n t ≡ false → filled (checked 1 0 0) t ≡ restoreOf n l t
+unfolding restoreOf
+of-sizes n l t e = rw e

@@ -1,0 +1,62 @@
+-- `snapshot::looking::start` meets its contract. Assumes nothing.
+use native.Mathlib.Omega.{arith}
+use mathlib.Core.Path.{refl}
+use Rattle.image.specs.Places.{nodePlace}
+use Rattle.image.specs.Widths.{heightWidth, nodeWidth}
+use Rattle.snapshot.proofs.LookLaws.{before-small}
+use borrow.Author.Needs.{needs}
+use Rattle.snapshot.proofs.looking.start.Statement.{statement}
+use Rattle.snapshot.proofs.looking.start.Tie as tie
+use Rattle.snapshot.proofs.looking.start.Reads as reads
+use Rattle.snapshot.proofs.looking.start.Lts as lts
+
+-- src/looking.rt:35:13
+cast-n : tie.Need-cast-n
+cast-n c = search needs
+
+-- src/looking.rt:36:19
+sub-before : tie.Need-sub-before
+sub-before c = search needs
+
+-- src/looking.rt:36:18
+cast-before : tie.Need-cast-before
+cast-before c = search needs
+
+-- src/looking.rt:37:5
+cast-result : tie.Need-cast-result
+cast-result c = search needs
+
+-- src/looking.rt:37:45
+mul-result : tie.Need-mul-result
+mul-result c = search needs
+
+-- src/looking.rt:37:40
+add-result : tie.Need-add-result
+add-result c = search needs
+
+-- src/looking.rt:37:30
+mul-result-2 : tie.Need-mul-result-2
+mul-result-2 c = let s = c .before .before in omega (arith, before-small _ _ (s .pre .1) (s .pre .2 .low) (s .pre .2 .high))
+
+-- src/looking.rt:37:5
+add-result-2 : tie.Need-add-result-2
+add-result-2 c = let s = c .before .before in omega (arith, s .pre .0, before-small _ _ (s .pre .1) (s .pre .2 .low) (s .pre .2 .high))
+
+-- src/looking.rt:31:1
+returns : tie.Need-returns
+unfolding nodePlace nodeWidth heightWidth
+returns c = let s = c .before .before in (refl, omega (arith, s .pre .0, before-small _ _ (s .pre .1) (s .pre .2 .low) (s .pre .2 .high)))
+
+pub start-spec : {M : Type 1} → statement M
+start-spec =
+    tie.close
+    (tie.spec
+    cast-n
+    sub-before
+    cast-before
+    cast-result
+    mul-result
+    add-result
+    mul-result-2
+    add-result-2
+    returns)

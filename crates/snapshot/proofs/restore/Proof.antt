@@ -1,0 +1,65 @@
+-- `snapshot::restore` meets its contract: 10 or 11 by the header, or the restore of an image of its n nodes.
+-- Assumes nothing.
+use mathlib.Core.Path.{ap, _∙_}
+use Rattle.network.specs.Check.{SaidCheck}
+use Rattle.network.specs.Fresh.{filled}
+use Rattle.tables.specs.Tables.{tables}
+use Rattle.snapshot.proofs.RestoreLaws.{headed-refused, headed-good, good-fields}
+use borrow.Author.Needs.{needs}
+use Rattle.snapshot.proofs.restore.Statement.{statement}
+use Rattle.snapshot.proofs.restore.Tie as tie
+use Rattle.snapshot.proofs.restore.Reads as reads
+use Rattle.snapshot.proofs.restore.Lts as lts
+use Rattle.reading.proofs.decode.Reads as decode-reads
+use Rattle.snapshot.proofs.restoring.headed.Reads as headed-reads
+use Rattle.snapshot.proofs.restoring.of_header.Reads as of-header-reads
+
+-- src/lib.rt:66:9
+decode-requires : tie.Need-decode-requires
+decode-requires c κs = search needs
+
+-- src/lib.rt:67:31
+enum-known-h : tie.Need-enum-known-h
+enum-known-h c = search needs
+
+-- src/lib.rt:68:9
+of-header-requires : tie.Need-of-header-requires
+of-header-requires c κs = search needs
+
+-- src/lib.rt:68:9
+returns : tie.Need-returns
+returns c =
+    let s = c .before .before .before .before .before .before in
+    let t = tables (s .args .nodes .now) (s .args .channels .now) in
+    ap (λ (x : SaidCheck). filled x t) (c .of-header .ensures) ∙ headed-refused _ t _ (c .before .before .decode .ensures) (c .before .match .keys2)
+
+-- src/lib.rt:70:5
+headed-requires : tie.Need-headed-requires
+headed-requires c κs =
+    let g = good-fields _ (c .before .before .before .before .before .decode .ensures) (c .before .before .before .h .given .1) in
+    (g .low, g .few)
+
+-- src/lib.rt:63:1
+same-length : tie.Need-same-length
+same-length c = search needs
+
+-- src/lib.rt:63:1
+same-length-2 : tie.Need-same-length-2
+same-length-2 c = search needs
+
+-- src/lib.rt:63:1
+returns-2 : tie.Need-returns-2
+returns-2 c = c .before .before .before .before .headed .ensures ∙ headed-good _ _ (c .before .before .before .before .before .before .before .before .before .before .decode .ensures) (c .before .before .before .before .before .before .before .before .h .given .1)
+
+pub restore-spec : {M : Type 1} → statement M
+restore-spec =
+    tie.close
+    (tie.spec
+    decode-requires
+    enum-known-h
+    of-header-requires
+    returns
+    headed-requires
+    same-length
+    same-length-2
+    returns-2)

@@ -1,0 +1,4 @@
+-- Save, restore, and one node at a saved place.
+pub mod Save
+pub mod Restore
+pub mod ReadNode

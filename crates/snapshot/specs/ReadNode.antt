@@ -1,0 +1,75 @@
+-- One node at a saved place (document 01: "Reading one station at a saved place"): only looked at, it enters no tables.
+-- 10, 11; 1 for the row of n heights; the checks of the whole image; 3 for k; 13 for a place that is not where k's record starts.
+use Prim.Native.Nat.{ℕ, _+_, _*_}
+use mathlib.Core.Bool.{cond}
+use mathlib.Core.List.{List}
+use lib.Dec.{eqb}
+use lib.ListN.{length}
+use Rattle.bits.specs.Bits.{unpacked}
+use Rattle.image.specs.Parts.{heightsFrom}
+use Rattle.image.specs.Places.{fieldIn, nodePlace}
+use Rattle.network.specs.Check.{SaidCheck, checked}
+use Rattle.protocol.specs.Network.{isNode}
+use Rattle.reading.specs.Examine.{examined}
+use Rattle.reading.specs.Header.{headerOf}
+use Rattle.reading.specs.declared.Fields.{Fields}
+use Rattle.reading.specs.declared.Header.{Header}
+use Rattle.reading.specs.declared.Header.the-variants.{Good, Short, Wrong}
+use Rattle.snapshot.specs.declared.NodeRead.{NodeRead}
+use Rattle.snapshot.specs.declared.NodeRead.the-variants.{Found, TooShort, BadHeader, Sizes, Fault, BadEnd, NotNode, NotPlace}
+
+-- 0 with the clock and both sets; or the refusal
+pub record SaidNode : Type 0 where
+  pub check : SaidCheck
+  pub clock : ℕ
+  pub neighbors : ℕ
+  pub forming : ℕ
+
+abbrev pub refusedNode : SaidCheck → SaidNode
+refusedNode c = record { check = c; clock = 0; neighbors = 0; forming = 0 }
+
+abbrev pub saidNode : NodeRead → SaidNode
+saidNode (Found r) =
+    record { check = checked 0 0 0; clock = r .clock .0; neighbors = r .neighbors; forming = r .forming }
+saidNode TooShort = refusedNode (checked 10 0 0)
+saidNode BadHeader = refusedNode (checked 11 0 0)
+saidNode Sizes = refusedNode (checked 1 0 0)
+saidNode (Fault u v) = refusedNode (checked 2 u v)
+saidNode BadEnd = refusedNode (checked 12 0 0)
+saidNode NotNode = refusedNode (checked 3 0 0)
+saidNode NotPlace = refusedNode (checked 13 0 0)
+
+-- what is said, and the lent row afterwards
+pub record Looked : Type 0 where
+  pub said : SaidNode
+  pub row : List ℕ
+
+abbrev pub looked : SaidNode → List ℕ → Looked
+looked s row = record { said = s; row = row }
+
+-- the record at a place
+unfoldable pub nodeAt : ℕ → List ℕ → ℕ → Looked
+nodeAt n l at =
+    looked
+    (record { check = checked 0 0 0; clock = fieldIn l at 32; neighbors = fieldIn l (at + 32) 16; forming = fieldIn l (at + 48) 16 })
+    (heightsFrom 16 n l at)
+
+-- 3, 13, else the record
+unfoldable pub nodePlaced : Fields → List ℕ → ℕ → ℕ → List ℕ → Looked
+nodePlaced f l k place row =
+    cond (isNode (f .n) k)
+    (cond (eqb place (nodePlace (f .length) 16 (f .n) k)) (nodeAt (f .n) l place) (looked (refusedNode (checked 13 0 0)) row))
+    (looked (refusedNode (checked 3 0 0)) row)
+
+unfoldable pub nodeExamined : Fields → List ℕ → ℕ → ℕ → List ℕ → SaidCheck → Looked
+nodeExamined f l k place row c = cond (eqb (c .number) 0) (nodePlaced f l k place row) (looked (refusedNode c) row)
+
+unfoldable pub nodeHeaded : List ℕ → ℕ → ℕ → List ℕ → Header → Looked
+nodeHeaded l k place row Short = looked (refusedNode (checked 10 0 0)) row
+nodeHeaded l k place row Wrong = looked (refusedNode (checked 11 0 0)) row
+nodeHeaded l k place row (Good f) =
+    cond (eqb (length row) (f .n * 7)) (nodeExamined f l k place row (examined 32 16 (f .n) l))
+    (looked (refusedNode (checked 1 0 0)) row)
+
+unfoldable pub readNodeOn : List ℕ → ℕ → ℕ → List ℕ → Looked
+readNodeOn xs k place row = nodeHeaded (unpacked xs) k place row (headerOf xs)

@@ -1,0 +1,46 @@
+-- Restoring (document 01: resume): reads a whole image into lent tables, or refuses and leaves them as they were.
+-- 10, 11; 1 for the tables, by the header's n; then the walk, the end and the contents: 2 or 12.
+use Prim.Native.Nat.{ℕ}
+use mathlib.Core.Bool.{cond}
+use mathlib.Core.List.{List}
+use lib.Dec.{eqb}
+use Rattle.bits.specs.Bits.{unpacked}
+use Rattle.image.specs.Places.{tablesIn}
+use Rattle.network.specs.Check.{SaidCheck, checked}
+use Rattle.network.specs.Fresh.{Filled, filled}
+use Rattle.reading.specs.Examine.{examined}
+use Rattle.reading.specs.Header.{headerOf}
+use Rattle.reading.specs.declared.Header.{Header}
+use Rattle.reading.specs.declared.Header.the-variants.{Good, Short, Wrong}
+use Rattle.snapshot.specs.declared.Restored.{Restored}
+use Rattle.snapshot.specs.declared.Restored.the-variants.{Done, TooShort, BadHeader, Sizes, Fault, BadEnd}
+use Rattle.tables.specs.Tables.{Tables, sized}
+
+abbrev pub saidRestore : Restored → SaidCheck
+saidRestore Done = checked 0 0 0
+saidRestore TooShort = checked 10 0 0
+saidRestore BadHeader = checked 11 0 0
+saidRestore Sizes = checked 1 0 0
+saidRestore (Fault u v) = checked 2 u v
+saidRestore BadEnd = checked 12 0 0
+
+-- a header that is not good; a good one is never answered so
+abbrev pub saidHeader : Header → SaidCheck
+saidHeader (Good f) = checked 11 0 0
+saidHeader Short = checked 10 0 0
+saidHeader Wrong = checked 11 0 0
+
+-- by what the checks behind the header say: 2 or 12, else the tables that the image's records make
+unfoldable pub restoreExamined : ℕ → List ℕ → Tables → SaidCheck → Filled
+restoreExamined n l t c = cond (eqb (c .number) 0) (filled c (tablesIn 32 16 n l)) (filled c t)
+
+unfoldable pub restoreOf : ℕ → List ℕ → Tables → Filled
+restoreOf n l t = cond (sized n t) (restoreExamined n l t (examined 32 16 n l)) (filled (checked 1 0 0) t)
+
+unfoldable pub restoreHeaded : List ℕ → Tables → Header → Filled
+restoreHeaded l t Short = filled (checked 10 0 0) t
+restoreHeaded l t Wrong = filled (checked 11 0 0) t
+restoreHeaded l t (Good f) = restoreOf (f .n) l t
+
+unfoldable pub restoreOn : List ℕ → Tables → Filled
+restoreOn xs t = restoreHeaded (unpacked xs) t (headerOf xs)

@@ -1,0 +1,91 @@
+// One node at a saved place, behind the header.
+ghost use mathlib.Core.Path.{_≡_};
+ghost use Prim.Native.Nat.{_+_, _*_, _≤_, _<_};
+ghost use lib.ListN.{length};
+ghost use Rattle.bits.specs.Bits.{unpacked};
+ghost use Rattle.image.specs.Parts.{Inside};
+ghost use Rattle.image.specs.Places.{nodePlace};
+ghost use Rattle.image.specs.Widths.{nodeWidth};
+ghost use Rattle.protocol.specs.Component.{Node};
+ghost use Rattle.reading.specs.Examine.{Walkable};
+ghost use Rattle.reading.specs.declared.Header.the-variants.{Good};
+ghost use Rattle.snapshot.specs.ReadNode.{saidNode, refusedNode, looked, nodeAt, nodePlaced, nodeHeaded};
+ghost use Rattle.snapshot.specs.declared.NodeRead.the-variants.{Found};
+ghost use Rattle.snapshot.specs.Restore.{saidHeader};
+use super::NodeRead;
+use super::NodeRecord;
+use height::Time;
+
+// What a header that is not good is answered with.
+pub fn of_header(h: reading::Header) -> NodeRead
+    ensures { λ r. ⌜ saidNode r ≡ refusedNode (saidHeader h) ⌝ }
+{
+    match h {
+        reading::Header::Good(_) => NodeRead::BadHeader,
+        reading::Header::Short => NodeRead::TooShort,
+        reading::Header::Wrong => NodeRead::BadHeader,
+    }
+}
+
+// 1 for the row, then the checks of the whole image.
+pub fn headed(
+    image: &[u8],
+    fields: reading::Fields,
+    k: u32,
+    place: u64,
+    row: &mut [u32],
+) -> NodeRead
+    requires { ⌜ (fields .length ≡ 32) × (1 ≤ fields .n) × (fields .n ≤ 16) ⌝ }
+    ensures { λ r. ⌜ looked (saidNode r) (now (row .exit)) ≡ nodeHeaded (unpacked (now (image .entry))) k place (now (row .entry)) (Good fields) ⌝ }
+{
+    if row.len() != (fields.n as usize) * 7 {
+        return NodeRead::Sizes;
+    }
+    match reading::examine(image, fields.n) {
+        reading::Examined::Sound => placed(image, fields, k, place, row),
+        reading::Examined::Fault(u, v) => NodeRead::Fault(u, v),
+        reading::Examined::BadEnd => NodeRead::BadEnd,
+    }
+}
+
+// Where node k's record starts: header length + (k - 1)(64 + 96 n).
+fn start(fields: reading::Fields, k: u32) -> usize
+    requires { ⌜ (fields .length ≡ 32) × (fields .n ≤ 16) × Node (fields .n) k ⌝ }
+    ensures { λ r. ⌜ (r ≡ nodePlace (fields .length) 16 (fields .n) k) × (r < 65536) ⌝ }
+{
+    let n = fields.n as usize;
+    let before = (k - 1) as usize;
+    fields.length as usize + before * (64 + 96 * n)
+}
+
+// 3, 13, or the record.
+fn placed(image: &[u8], fields: reading::Fields, k: u32, place: u64, row: &mut [u32]) -> NodeRead
+    requires { ⌜ (fields .length ≡ 32) × (fields .n ≤ 16) × (length (now row) ≡ fields .n * 7) × Walkable 32 16 (fields .n) (unpacked (now image)) ⌝ }
+    ensures { λ r. ⌜ looked (saidNode r) (now (row .exit)) ≡ nodePlaced fields (unpacked (now (image .entry))) k place (now (row .entry)) ⌝ }
+{
+    if (k < 1) | (fields.n < k) {
+        return NodeRead::NotNode;
+    }
+    let at = start(fields, k);
+    if place != at as u64 {
+        return NodeRead::NotPlace;
+    }
+    let record = record_at(image, at, fields.n, row);
+    NodeRead::Found(record)
+}
+
+// The record at a bit place: the heights go into the row.
+fn record_at(image: &[u8], at: usize, n: u32, row: &mut [u32]) -> NodeRecord
+    requires { ⌜ (n ≤ 16) × (length (now row) ≡ n * 7) × Inside (now image) at (nodeWidth 16 n) ⌝ }
+    ensures { λ r. ⌜ looked (saidNode (Found r)) (now (row .exit)) ≡ nodeAt n (unpacked (now (image .entry))) at ⌝ }
+{
+    image::rows::get_heights(image, at, 16, n as usize, row);
+    let clock = Time(bits::get(image, at, 32));
+    let neighbors = bits::get(image, at + 32, 16) as u16;
+    let forming = bits::get(image, at + 48, 16) as u16;
+    NodeRecord {
+        clock,
+        neighbors,
+        forming,
+    }
+}

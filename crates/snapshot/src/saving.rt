@@ -1,0 +1,21 @@
+// A save of tables in which the check found no fault.
+ghost use mathlib.Core.Path.{_≡_};
+ghost use Rattle.image.specs.Image.{image};
+ghost use Rattle.network.specs.Check.{checkOn};
+ghost use Rattle.snapshot.specs.Save.{saidSave, saving, put};
+ghost use Rattle.tables.specs.Load.{load};
+ghost use Rattle.tables.specs.Tables.{given, before};
+use super::Saved;
+
+// 14, or the image goes to the front of the bytes.
+pub fn checked(n: u32, nodes: &[u32], channels: &[u32], out: &mut [u8]) -> Saved
+    requires { ⌜ checkOn n (given nodes channels) .number ≡ 0 ⌝ }
+    ensures { λ r. ⌜ saving (saidSave r) (now (out .exit)) ≡ put (image n (load n (before nodes channels))) (now (out .entry)) ⌝ }
+{
+    let size = writing::image_length(n, nodes, channels);
+    if out.len() < size {
+        return Saved::NoRoom;
+    }
+    writing::write(n, nodes, channels, out);
+    Saved::Written(size)
+}

@@ -1,0 +1,25 @@
+-- `writing::nodes::put_pad` meets its contract: a field of zero is a run of zero bits.
+-- Assumes nothing.
+use mathlib.Core.Path.{ap, _∙_}
+use borrow.Author.Needs.{needs}
+use Rattle.bits.specs.Bits.{written}
+use Rattle.writing.proofs.HeaderLaws.{zero-bits}
+use Rattle.writing.proofs.nodes.put_pad.Statement.{statement}
+use Rattle.writing.proofs.nodes.put_pad.Tie as tie
+
+sub-put : tie.Need-sub-put
+sub-put c = search needs
+
+put-requires : tie.Need-put-requires
+put-requires c κs = search needs
+
+same-length : tie.Need-same-length
+same-length c = search needs
+
+returns : tie.Need-returns
+returns c =
+    let a = c .before .before .before .before .before .args in
+    c .before .before .put .ensures ∙ ap (written (a .buf .now) (a .at)) (zero-bits _)
+
+pub put-pad-spec : {M : Type 1} → statement M
+put-pad-spec = tie.close (tie.spec sub-put put-requires same-length returns)

@@ -1,0 +1,2 @@
+-- Both tables' words as an image's bits.
+pub mod Words
