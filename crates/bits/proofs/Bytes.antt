@@ -8,7 +8,8 @@ use mathlib.Core.List.{List, [], _∷_, _++_, append-assoc}
 use lib.ListN.{length, take, drop, getD, set, length-append, length-take, length-drop, take-append-drop}
 use lib.Seq.{take-append-le, drop-append-le, take-append-add, drop-append-add, take-at, drop-at, take-add, drop-drop, drop-cons, set-split, drop-nil, take-nil}
 use Rattle.bits.specs.Bits.{bits, number, unpacked, packed, over, field, written}
-use Rattle.bits.proofs.Numbers.{length-bits, take-bits, drop-bits, number-bits, number-append, Below, below-nil, below-append, below-take, below-drop, below-bits, number-lt, bits-number}
+use Rattle.bits.proofs.Numbers.{length-bits, take-bits, drop-bits, number-bits, number-append, number-lt, bits-number}
+use Rattle.bits.proofs.Numbers.{Below, below-nil, below-append, below-take, below-drop, below-bits}
 use Rattle.bits.proofs.Overlay.{length-over, over-tail, over-before, over-after, over-over, over-own, below-over}
 
 pub below-unpacked : (xs : List ℕ) → Below 2 (unpacked xs)
@@ -124,7 +125,8 @@ field-lt xs at w h =
 -- ---- the bytes after a write
 -- THE CENTRAL LEMMA: the bits of bytes after a write are the bits before it with the new ones over them.
 -- Lengths, reads of what was written and of what was not, and writes end to end follow from it by laws of lists
-pub unpacked-written : (xs : List ℕ) (at : ℕ) (bs : List ℕ) → Below 2 bs → at + length bs ≤ 8 * length xs → unpacked (written xs at bs) ≡ over (unpacked xs) at bs
+pub unpacked-written : (xs : List ℕ) (at : ℕ) (bs : List ℕ) → Below 2 bs → at + length bs ≤ 8 * length xs
+    → unpacked (written xs at bs) ≡ over (unpacked xs) at bs
 unfolding written
 unpacked-written xs at bs b h =
     let e : at + length bs ≤ length (unpacked xs) = omega (arith, length-unpacked xs) in
@@ -168,7 +170,9 @@ pub get-put : (xs : List ℕ) (at w v : ℕ) → at + w ≤ 8 * length xs → fi
 unfolding field
 get-put xs at w v h =
     let e : at + length (bits w v) ≤ 8 * length xs = omega (arith, length-bits w v) in
-    ap number (ap (take w) (written-tail xs at (bits w v) (below-bits w v) e) ∙ take-at (bits w v) (drop (at + length (bits w v)) (unpacked xs)) w (length-bits w v))
+    ap number
+    (ap (take w) (written-tail xs at (bits w v) (below-bits w v) e)
+    ∙ take-at (bits w v) (drop (at + length (bits w v)) (unpacked xs)) w (length-bits w v))
     ∙ number-bits w v
 
 pub put-before : (xs : List ℕ) (at w v a u : ℕ) → at + w ≤ 8 * length xs → a + u ≤ at → field (written xs at (bits w v)) a u ≡ field xs a u

@@ -1,4 +1,5 @@
--- Laws of fields end to end, over every list of widths. Assumes nothing.
+-- Laws of fields end to end, over every list of widths.
+-- Assumes nothing.
 use Prim.Native.Nat.{ℕ, zero, suc, _+_, _-_, _*_, _/_, _%_, _^_, _≤_, _<_, min}
 use native.Mathlib.Nat.{add-assoc, add-zero, zero-add, mod-eq-of-lt}
 use native.Mathlib.Numerals.{add-one}
@@ -21,7 +22,9 @@ unfolding spread
 spread-append [] b [] d e = refl
 spread-append [] b (v ∷ c) d e = absurd (omega arith)
 spread-append (w ∷ a) b [] d e = absurd (omega arith)
-spread-append (w ∷ a) b (v ∷ c) d e = ap (λ (t : List ℕ). bits w v ++ t) (spread-append a b c d (omega arith)) ∙ sym (append-assoc (bits w v) (spread a c) (spread b d))
+spread-append (w ∷ a) b (v ∷ c) d e =
+    ap (λ (t : List ℕ). bits w v ++ t) (spread-append a b c d (omega arith))
+    ∙ sym (append-assoc (bits w v) (spread a c) (spread b d))
 
 pub length-spread : (ws vs : List ℕ) → length ws ≡ length vs → length (spread ws vs) ≡ total ws
 unfolding spread total
@@ -38,7 +41,9 @@ below-spread (w ∷ ws) (v ∷ vs) = below-append 2 (bits w v) (spread ws vs) (b
 pub gathered-append : (a b bs : List ℕ) → gathered (a ++ b) bs ≡ gathered a bs ++ gathered b (drop (total a) bs)
 unfolding gathered total
 gathered-append [] b bs = refl
-gathered-append (w ∷ a) b bs = ap (λ (t : List ℕ). number (take w bs) ∷ t) (gathered-append a b (drop w bs) ∙ ap (λ (t : List ℕ). gathered a (drop w bs) ++ gathered b t) (drop-drop (total a) w bs))
+gathered-append (w ∷ a) b bs =
+    ap (λ (t : List ℕ). number (take w bs) ∷ t)
+    (gathered-append a b (drop w bs) ∙ ap (λ (t : List ℕ). gathered a (drop w bs) ++ gathered b t) (drop-drop (total a) w bs))
 
 pub length-gathered : (ws bs : List ℕ) → length (gathered ws bs) ≡ length ws
 unfolding gathered
@@ -62,7 +67,8 @@ gathered-spread (w ∷ ws) (v ∷ vs) rest e f =
     let s : (bits w v ++ spread ws vs) ++ rest ≡ bits w v ++ b = append-assoc (bits w v) (spread ws vs) rest in
     ap₂ (λ (x : ℕ) (t : List ℕ). x ∷ t)
     (ap (λ (t : List ℕ). number (take w t)) s ∙ ap number (take-at (bits w v) b w (length-bits w v)) ∙ number-bits w v ∙ mod-eq-of-lt (f .0))
-    (ap (λ (t : List ℕ). gathered ws (drop w t)) s ∙ ap (gathered ws) (drop-at (bits w v) b w (length-bits w v)) ∙ gathered-spread ws vs rest (omega arith) (f .1))
+    (ap (λ (t : List ℕ). gathered ws (drop w t)) s ∙ ap (gathered ws) (drop-at (bits w v) b w (length-bits w v))
+    ∙ gathered-spread ws vs rest (omega arith) (f .1))
 
 -- what was gathered is spread again
 pub spread-gathered : (ws bs : List ℕ) → Below 2 bs → total ws ≤ length bs → spread ws (gathered ws bs) ≡ take (total ws) bs

@@ -1,4 +1,5 @@
--- Laws of bits, bytes and fields.
+-- Laws of bits, bytes and fields, each built on those before it.
+-- Assumes nothing.
 pub mod Numbers
 pub mod Overlay
 pub mod Bytes

@@ -83,7 +83,8 @@ over-own l at w h =
     ∙ take-append-drop at l
 
 -- a write inside a part, as a write of the part
-pub over-within : (l : List ℕ) (at n off : ℕ) (bs : List ℕ) → at + n ≤ length l → off + length bs ≤ n → over l at (over (take n (drop at l)) off bs) ≡ over l (at + off) bs
+pub over-within : (l : List ℕ) (at n off : ℕ) (bs : List ℕ) → at + n ≤ length l → off + length bs ≤ n
+    → over l at (over (take n (drop at l)) off bs) ≡ over l (at + off) bs
 unfolding over
 over-within l at n off bs h k =
     let T : List ℕ = take n (drop at l) in

@@ -1,2 +1,3 @@
--- Bits of bytes.
+-- Bits of bytes, and fields in them.
+-- Assumes nothing: these are definitions.
 pub mod Bits

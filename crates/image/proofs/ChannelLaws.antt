@@ -7,32 +7,16 @@ use mathlib.Core.Path.{_≡_, refl, ap, ap₂, _∙_}
 use mathlib.Core.Bool.{true, false}
 use mathlib.Core.List.{List, [], _∷_, _++_, append-assoc}
 use lib.Dec.{eqb}
-use lib.ListN.{length, take, drop, length-append}
+use lib.ListN.{length, drop, length-append}
 use lib.Seq.{drop-at}
-use Rattle.bits.specs.Bits.{bits, total}
+use Rattle.bits.specs.Bits.{bits}
 use Rattle.bits.proofs.Numbers.{Below, below-nil, below-append, below-bits}
 use Rattle.protocol.proofs.TestsLaws.{Choice, yes!, no!, choice}
 use Rattle.image.specs.Image.{messageBits, channelBits}
 use Rattle.image.specs.Places.{fieldIn, messagesOf, channelNext}
 use Rattle.image.specs.Records.{Records}
-use Rattle.image.specs.Widths.{widthsOf, recordBits, recordOf, heightWidth, messageWidth}
-use Rattle.image.proofs.RecordLaws.{Sound, length-record-bits, record-of-bits, below-record}
-
--- ---- the widths
-
-pub total-height : (d : ℕ) → total (take 7 (widthsOf d)) ≡ heightWidth d
-unfolding total heightWidth
-total-height d = omega arith
-
-pub total-message : (d : ℕ) → total (take 8 (widthsOf d)) ≡ messageWidth d
-unfolding total messageWidth
-total-message d = omega arith
-
-pub length-height : (d : ℕ) (ws : List ℕ) → length ws ≡ 7 → length (recordBits d ws) ≡ heightWidth d
-length-height d ws e = length-record-bits d 7 (omega arith) ws e ∙ total-height d
-
-pub length-message : (d : ℕ) (ws : List ℕ) → length ws ≡ 8 → length (recordBits d ws) ≡ messageWidth d
-length-message d ws e = length-record-bits d 8 (omega arith) ws e ∙ total-message d
+use Rattle.image.specs.Widths.{recordBits, recordOf, messageWidth}
+use Rattle.image.proofs.RecordLaws.{Sound, length-message, below-record, record-of-bits}
 
 -- ---- messages
 

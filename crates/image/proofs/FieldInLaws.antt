@@ -10,8 +10,8 @@ use lib.Pow.{pow-mono}
 use lib.Seq.{take-at, drop-drop}
 use Rattle.bits.specs.Bits.{bits, number}
 use Rattle.bits.proofs.Numbers.{Below, below-take, below-drop, length-bits, number-bits, bits-number, number-lt}
+use Rattle.tables.proofs.RowsMore.{behind}
 use Rattle.image.specs.Places.{fieldIn}
-use Rattle.image.proofs.RowsMore.{behind}
 
 pub field-head : (l t : List ℕ) (q w v : ℕ) → v < 2 ^ w → drop q l ≡ bits w v ++ t → fieldIn l q w ≡ v
 unfolding fieldIn

@@ -14,13 +14,14 @@ use Rattle.bits.proofs.Numbers.{Below, below-nil, below-cons, below-append, bel
 use Rattle.bits.proofs.Bytes.{unpacked-packed, length-packed}
 use Rattle.protocol.proofs.TestsLaws.{Choice, yes!, no!, choice}
 use Rattle.tables.specs.Rows.{rows}
+use Rattle.tables.proofs.RowsMore.{rows-same}
 use Rattle.image.specs.Image.{headerBits, nodeBits, messageBits, channelBits, channelsBits, networkBits, padded, bytesOf, imageOf}
 use Rattle.image.specs.Records.{Records}
 use Rattle.image.specs.Widths.{recordBits}
 use Rattle.image.proofs.ChannelLaws.{channel-same, channel-other, below-channel}
 use Rattle.image.proofs.ReadBack.{Agree}
 use Rattle.image.proofs.RecordLaws.{below-record}
-use Rattle.image.proofs.RowsMore.{rows-same, below-rows}
+use Rattle.image.proofs.RowsMore.{below-rows}
 
 -- ---- zero bits
 
@@ -79,13 +80,15 @@ length-header version h n head = simp (length-append, length-bits) (omega arith)
 abbrev pub padding : List ℕ → ℕ
 padding l = (8 - length l % 8) % 8
 
+-- they fill the last byte
+pub length-padded : (l : List ℕ) → length (padded l) ≡ 8 * ((length l + 7) / 8)
+unfolding padded
+length-padded l = length-append l (replicate (padding l) 0) ∙ omega (arith, length-replicate {A = ℕ} (padding l) 0)
+
 pub unpacked-bytes : (l : List ℕ) → Below 2 l → unpacked (bytesOf l) ≡ l ++ replicate (padding l) 0
 unfolding bytesOf padded
 unpacked-bytes l b =
-    let z : ℕ = padding l in
-    let e : length (l ++ replicate z 0) ≡ 8 * ((length l + 7) / 8) =
-    length-append l (replicate z 0) ∙ omega (arith, length-replicate {A = ℕ} z 0) in
-    unpacked-packed ((length l + 7) / 8) (l ++ replicate z 0) e (below-append 2 l (replicate z 0) b (below-zeros z))
+    unpacked-packed ((length l + 7) / 8) (padded l) (length-padded l) (below-append 2 l (replicate (padding l) 0) b (below-zeros (padding l)))
 
 pub length-bytes : (l : List ℕ) → length (bytesOf l) ≡ (length l + 7) / 8
 unfolding bytesOf

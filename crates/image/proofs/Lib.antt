@@ -1,8 +1,9 @@
--- Laws of images.
+-- Laws of images: round trips, records and tables, rows and cells put and got.
+-- Assumes nothing of its own: each module says what it assumes.
 pub mod RowsMore
+pub mod FieldInLaws
 pub mod RecordLaws
 pub mod WalkLaws
-pub mod FieldInLaws
 pub mod ChannelLaws
 pub mod PlaceLaws
 pub mod ReadBack
@@ -11,7 +12,6 @@ pub mod ImageBits
 pub mod Whole
 pub mod TablesRecords
 pub mod NetworkFits
-pub mod RecordParts
 pub mod PartLaws
 pub mod PartTurns
 pub mod PartCalls

@@ -5,24 +5,22 @@ use native.Mathlib.Omega.{arith}
 use mathlib.Core.List.{List, [], _∷_, _++_, append-nil}
 use mathlib.Core.Path.{_≡_, refl, sym, ap, _∙_}
 use lib.ListN.{length, take, drop, set, length-append, length-drop, length-set, drop-of-length-le}
-use lib.Seq.{take-all}
 use Rattle.bits.specs.Bits.{bits, unpacked, field, written}
 use Rattle.bits.proofs.Numbers.{below-bits, length-bits}
 use Rattle.bits.proofs.Bytes.{length-written, written-written}
 use Rattle.tables.specs.Cell.{count}
 use Rattle.tables.specs.Row.{clockIn, neighborsIn, formingIn}
 use Rattle.tables.specs.Tables.{width}
+use Rattle.tables.proofs.RowsLaws.{rest-is}
 use Rattle.image.specs.Parts.{Inside, Depth, heightsBits, rowBits, messagesBits, cellBits, heightsFrom, rowFrom, cellFrom}
 use Rattle.image.specs.Places.{fieldIn, messagesOf, channelFrom}
 use Rattle.image.specs.Records.{placesOf, cellOf}
 use Rattle.image.specs.Widths.{messageWidth, nodeWidth}
-use Rattle.image.proofs.PartLaws.{length-heights-bits, length-messages-bits, length-messages}
+use Rattle.image.proofs.ChannelLaws.{length-messages-of}
+use Rattle.image.proofs.PartLaws.{length-heights-bits, length-messages-bits}
 use Rattle.image.proofs.PartTurns.{behind-sets}
 
 -- ---- the rest of a slice, `&xs[k..]`
-
-pub rest-is : (k : ℕ) (xs : List ℕ) → take (length xs - k) (drop k xs) ≡ drop k xs
-rest-is k xs = take-all (length xs - k) (drop k xs) (simp length-drop (omega arith))
 
 pub rest-length : (k : ℕ) (xs : List ℕ) → length (take (length xs - k) (drop k xs)) ≡ length xs - k
 rest-length k xs = ap length (rest-is k xs) ∙ length-drop k xs
@@ -103,7 +101,7 @@ cell-got d xs [] ms at x s p q = absurd (omega arith)
 cell-got d xs (a ∷ ws) ms at x s p q =
     ap (λ (us : List ℕ). x ∷ (ms ++ us)) (rest-none 1 (x ∷ ws))
     ∙ ap (λ (us : List ℕ). x ∷ us) (append-nil ms ∙ q)
-    ∙ ap (λ (k : ℕ). k ∷ placesOf 8 (messagesOf d x (drop (at + 4) (unpacked xs)))) (sym (length-messages d x (drop (at + 4) (unpacked xs))))
+    ∙ ap (λ (k : ℕ). k ∷ placesOf 8 (messagesOf d x (drop (at + 4) (unpacked xs)))) (sym (length-messages-of d x (drop (at + 4) (unpacked xs))))
     ∙ ap (λ (k : ℕ). cellOf (messagesOf d k (drop (at + 4) (unpacked xs)))) p
 
 -- what the messages' reader requires, after the count

@@ -3,80 +3,34 @@
 use Prim.Native.Nat.{ℕ, zero, suc, _+_, _-_, _*_, _≤_, _<_}
 use native.Mathlib.Nat.{zero-mul, suc-mul, mul-comm}
 use native.Mathlib.Omega.{arith}
-use mathlib.Core.List.{List, [], _∷_, _++_, append-assoc, append-nil}
+use mathlib.Core.List.{List, [], _∷_, _++_, append-assoc}
 use mathlib.Core.Path.{_≡_, refl, sym, ap, ap₂, _∙_}
-use lib.ListN.{length, take, drop, getD, replicate, length-append, length-drop, length-replicate, replicate-append-replicate}
-use lib.Seq.{take-at, drop-at, drop-drop}
+use lib.ListN.{length, take, drop, replicate, length-append, length-drop, replicate-append-replicate}
+use lib.Seq.{drop-drop}
 use Rattle.bits.specs.Bits.{bits, total}
-use Rattle.bits.proofs.Numbers.{Below, below-nil, below-append, below-bits, length-bits}
+use Rattle.bits.proofs.Numbers.{Below, below-append, below-bits, length-bits}
 use Rattle.tables.specs.Cell.{count}
 use Rattle.tables.specs.Row.{clockIn, neighborsIn, formingIn}
 use Rattle.tables.specs.Rows.{rows, rowAt}
 use Rattle.tables.specs.Tables.{width}
 use Rattle.tables.proofs.RowsLaws.{row-fits, part-length}
+use Rattle.tables.proofs.RowsMore.{rows-more, rows-same, length-rows, row-first, row-next, rows-at}
 use Rattle.image.specs.Image.{nodeBits, messageBits}
 use Rattle.image.specs.Parts.{heightsBits, rowBits, messagesBits, cellBits, heightsFrom, rowFrom, cellFrom}
 use Rattle.image.specs.Places.{fieldIn, nodePlace, heightFrom, messagesOf, channelFrom, channelPlace, recordsIn}
 use Rattle.image.specs.Records.{Records, rowOf, placesOf, cellOf}
 use Rattle.image.specs.Widths.{recordBits, recordOf, widthsOf, heightWidth, messageWidth, nodeWidth}
-use Rattle.image.proofs.RecordParts.{total-height, total-message, length-record, below-record-bits, length-record-bits}
+use Rattle.image.proofs.ChannelLaws.{length-messages-of}
+use Rattle.image.proofs.RecordLaws.{total-height, total-message, length-record, below-record, length-record-bits}
+use Rattle.image.proofs.RowsMore.{below-rows}
+use Rattle.image.proofs.TablesRecords.{Eights, enil, econs, length-cell}
 
--- ---- rows laid end to end
+-- ---- n records of m words each, end to end
 
--- one row more
-pub rows-more : (n : ℕ) (f : ℕ → List ℕ) → rows (suc n) f ≡ rows n f ++ f (suc n)
-unfolding rows
-rows-more zero f = append-nil (f 1)
-rows-more (suc n) f =
-    ap (λ (t : List ℕ). f 1 ++ t) (rows-more n (λ i. f (suc i)))
-    ∙ sym (append-assoc (f 1) (rows n (λ i. f (suc i))) (f (suc (suc n))))
-
--- rows that agree one by one
-pub rows-same : (n : ℕ) (f g : ℕ → List ℕ) → ((i : ℕ) → i < n → f (suc i) ≡ g (suc i)) → rows n f ≡ rows n g
-unfolding rows
-rows-same zero f g h = refl
-rows-same (suc n) f g h =
-    ap₂ (λ (a b : List ℕ). a ++ b) (h 0 (omega arith)) (rows-same n (λ i. f (suc i)) (λ i. g (suc i)) (λ i l. h (suc i) (omega arith)))
-
-pub length-rows : (w n : ℕ) (f : ℕ → List ℕ) → ((i : ℕ) → i < n → length (f (suc i)) ≡ w) → length (rows n f) ≡ n * w
-unfolding rows
-length-rows w zero f h = sym (zero-mul w)
-length-rows w (suc n) f h =
-    length-append (f 1) (rows n (λ i. f (suc i)))
-    ∙ ap₂ (λ (a b : ℕ). a + b) (h 0 (omega arith)) (length-rows w n (λ i. f (suc i)) (λ i l. h (suc i) (omega arith)))
-    ∙ omega (arith, suc-mul n w)
-
-pub below-rows : (m n : ℕ) (f : ℕ → List ℕ) → 0 < m → ((i : ℕ) → Below m (f i)) → Below m (rows n f)
-unfolding rows
-below-rows m zero f z h = below-nil m z
-below-rows m (suc n) f z h = below-append m (f 1) (rows n (λ i. f (suc i))) (h 1) (below-rows m n (λ i. f (suc i)) z (λ i. h (suc i)))
-
--- the first row, and the rows behind it
-pub row-first : (w : ℕ) (a t : List ℕ) → length a ≡ w → rowAt w 0 (a ++ t) ≡ a
-unfolding rowAt
-row-first w a t e = rw (zero-mul w) (take-at a t w e)
-
-pub row-next : (w i : ℕ) (a t : List ℕ) → length a ≡ w → rowAt w (suc i) (a ++ t) ≡ rowAt w i t
-unfolding rowAt
-row-next w i a t e =
-    let q : suc i * w ≡ w + i * w = omega (arith, suc-mul i w) in
-    ap (take w) (ap (λ (x : ℕ). drop x (a ++ t)) q ∙ sym (drop-drop (i * w) w (a ++ t)) ∙ ap (drop (i * w)) (drop-at a t w e))
-
--- row i of rows of one width
-pub row-of-rows : (w n : ℕ) (f : ℕ → List ℕ) → ((i : ℕ) → i < n → length (f (suc i)) ≡ w)
-    → (i : ℕ) → i < n → rowAt w i (rows n f) ≡ f (suc i)
-unfolding rows
-row-of-rows w zero f h i l = absurd (omega arith)
-row-of-rows w (suc n) f h zero l = row-first w (f 1) (rows n (λ i. f (suc i))) (h 0 (omega arith))
-row-of-rows w (suc n) f h (suc i) l =
-    row-next w i (f 1) (rows n (λ j. f (suc j))) (h 0 (omega arith))
-    ∙ row-of-rows w n (λ j. f (suc j)) (λ j q. h (suc j) (omega arith)) i (omega arith)
-
+-- the words of one
 pub length-row-at : (w n i : ℕ) (ws : List ℕ) → n * w ≤ length ws → i < n → length (rowAt w i ws) ≡ w
 unfolding rowAt
 length-row-at w n i ws h l = part-length (i * w) w ws (omega (arith, row-fits w i n l))
-
--- ---- n records of m words each, end to end
 
 -- their bits; heights at m = 7, messages at m = 8
 unfoldable pub runBits : ℕ → ℕ → ℕ → List ℕ → List ℕ
@@ -84,12 +38,12 @@ runBits d m n ws = rows n (λ v. recordBits d (rowAt m (v - 1) ws))
 
 pub below-run-bits : (d m n : ℕ) (ws : List ℕ) → Below 2 (runBits d m n ws)
 unfolding runBits
-below-run-bits d m n ws = below-rows 2 n (λ v. recordBits d (rowAt m (v - 1) ws)) (omega arith) (λ v. below-record-bits d (rowAt m (v - 1) ws))
+below-run-bits d m n ws = below-rows 2 n (λ v. recordBits d (rowAt m (v - 1) ws)) (omega arith) (λ v. below-record d (rowAt m (v - 1) ws))
 
 pub length-run-bits : (d m n : ℕ) (ws : List ℕ) → m ≤ 8 → n * m ≤ length ws → length (runBits d m n ws) ≡ n * total (take m (widthsOf d))
 unfolding runBits
-length-run-bits d m n ws h k = length-rows (total (take m (widthsOf d))) n (λ v. recordBits d (rowAt m (v - 1) ws))
-    (λ i l. let z : suc i - 1 ≡ i = omega arith in rw z (length-record-bits d m (rowAt m i ws) h (length-row-at m n i ws k l)))
+length-run-bits d m n ws h k = length-rows n (total (take m (widthsOf d))) (λ v. recordBits d (rowAt m (v - 1) ws))
+    (λ i l. let z : suc i - 1 ≡ i = omega arith in rw z (length-record-bits d m h (rowAt m i ws) (length-row-at m n i ws k l)))
 
 pub run-bits-more : (d m n : ℕ) (ws : List ℕ) → runBits d m (suc n) ws ≡ runBits d m n ws ++ recordBits d (rowAt m n ws)
 unfolding runBits
@@ -106,7 +60,7 @@ unfolding rowBits rowOf nodeBits heightsBits
 row-bits d n r u h =
     ap (λ (t : List ℕ). bits 32 (r .clock u) ++ (bits 16 (r .neighbors u) ++ (bits 16 (r .forming u) ++ t)))
     (rows-same n (λ v. recordBits d (rowAt 7 (v - 1) (rows n (r .height u)))) (λ v. recordBits d (r .height u v))
-    (λ i l. let z : suc i - 1 ≡ i = omega arith in ap (recordBits d) (rw z (row-of-rows 7 n (r .height u) h i l))))
+    (λ i l. let z : suc i - 1 ≡ i = omega arith in ap (recordBits d) (rw z (rows-at 7 n (r .height u) h i l))))
 
 pub length-heights-bits : (d n : ℕ) (ws : List ℕ) → n * 7 ≤ length ws → length (heightsBits d n ws) ≡ n * heightWidth d
 unfolding heightsBits runBits
@@ -133,23 +87,22 @@ below-row-bits d n row =
 -- ---- the bits of a cell
 
 -- the first messages of k places are the messages
-places-bits : (d k : ℕ) (ms : List (List ℕ)) → length ms ≤ k → ((i : ℕ) → i < length ms → length (getD ms i []) ≡ 8)
+places-bits : (d k : ℕ) (ms : List (List ℕ)) → length ms ≤ k → Eights ms
     → rows (length ms) (λ v. recordBits d (rowAt 8 (v - 1) (placesOf k ms))) ≡ messageBits d ms
 unfolding rows messageBits placesOf
 places-bits d k [] h e = refl
 places-bits d zero (m ∷ ms) h e = absurd (omega arith)
-places-bits d (suc k) (m ∷ ms) h e =
-    ap₂ (λ (a b : List ℕ). recordBits d a ++ b) (row-first 8 m (placesOf k ms) (e 0 (omega arith)))
+places-bits d (suc k) (m ∷ ms) h (econs a e) =
+    ap₂ (λ (a b : List ℕ). recordBits d a ++ b) (row-first 8 m (placesOf k ms) a)
     (rows-same (length ms) (λ v. recordBits d (rowAt 8 (suc v - 1) (m ++ placesOf k ms))) (λ v. recordBits d (rowAt 8 (v - 1) (placesOf k ms)))
     (λ i l.
     let y : suc (suc i) - 1 ≡ suc i = omega arith in
     let z : suc i - 1 ≡ i = omega arith in
-    ap (recordBits d) (rw (y, z) (row-next 8 i m (placesOf k ms) (e 0 (omega arith)))))
-    ∙ places-bits d k ms (omega arith) (λ i l. e (suc i) (omega arith)))
+    ap (recordBits d) (rw (y, z) (row-next 8 i m (placesOf k ms) a)))
+    ∙ places-bits d k ms (omega arith) e)
 
 -- a cell of messages has the bits of its channel's record
-pub cell-bits : (d : ℕ) (ms : List (List ℕ)) → length ms ≤ 8 → ((i : ℕ) → i < length ms → length (getD ms i []) ≡ 8)
-    → cellBits d (cellOf ms) ≡ bits 4 (length ms) ++ messageBits d ms
+pub cell-bits : (d : ℕ) (ms : List (List ℕ)) → length ms ≤ 8 → Eights ms → cellBits d (cellOf ms) ≡ bits 4 (length ms) ++ messageBits d ms
 unfolding cellBits cellOf messagesBits
 cell-bits d ms h e = ap (λ (t : List ℕ). bits 4 (length ms) ++ t) (places-bits d 8 ms h e)
 
@@ -182,7 +135,7 @@ runFrom d m w n l at = rows n (λ v. recordOf d m (drop (at + (v - 1) * w) l))
 pub length-run-from : (d m w n : ℕ) (l : List ℕ) (at : ℕ) → m ≤ 8 → length (runFrom d m w n l at) ≡ n * m
 unfolding runFrom
 length-run-from d m w n l at h =
-    length-rows m n (λ v. recordOf d m (drop (at + (v - 1) * w) l)) (λ i _. length-record d m (drop (at + (suc i - 1) * w) l) h)
+    length-rows n m (λ v. recordOf d m (drop (at + (v - 1) * w) l)) (λ i _. length-record d m h (drop (at + (suc i - 1) * w) l))
 
 pub run-from-more : (d m w n : ℕ) (l : List ℕ) (at : ℕ) → runFrom d m w (suc n) l at ≡ runFrom d m w n l at ++ recordOf d m (drop (at + n * w) l)
 unfolding runFrom
@@ -211,17 +164,17 @@ length-row-from d n l at =
     ap length (heights-run d n l at) ∙ length-run-from d 7 (heightWidth d) n l (at + 64) (omega arith) in
     omega (arith, e)
 
-pub length-messages : (d c : ℕ) (l : List ℕ) → length (messagesOf d c l) ≡ c
-unfolding messagesOf
-length-messages d zero l = refl
-length-messages d (suc c) l = ap suc (length-messages d c (drop (messageWidth d) l))
-
 -- each message has eight words
-pub messages-wide : (d c : ℕ) (l : List ℕ) (i : ℕ) → i < c → length (getD (messagesOf d c l) i []) ≡ 8
+pub messages-wide : (d c : ℕ) (l : List ℕ) → Eights (messagesOf d c l)
 unfolding messagesOf
-messages-wide d zero l i h = absurd (omega arith)
-messages-wide d (suc c) l zero h = length-record d 8 l (omega arith)
-messages-wide d (suc c) l (suc i) h = messages-wide d c (drop (messageWidth d) l) i (omega arith)
+messages-wide d zero l = enil
+messages-wide d (suc c) l = econs (length-record d 8 (omega arith) l) (messages-wide d c (drop (messageWidth d) l))
+
+pub length-cell-from : (d : ℕ) (l : List ℕ) (at : ℕ) → fieldIn l at 4 ≤ 8 → length (cellFrom d l at) ≡ 65
+unfolding cellFrom channelFrom
+length-cell-from d l at h =
+    let ms : List (List ℕ) = messagesOf d (fieldIn l at 4) (drop (at + 4) l) in
+    length-cell ms (messages-wide d (fieldIn l at 4) (drop (at + 4) l)) (omega (arith, length-messages-of d (fieldIn l at 4) (drop (at + 4) l)))
 
 -- no message: zero words
 places-none : (k : ℕ) → placesOf k [] ≡ replicate (k * 8) 0
@@ -257,12 +210,3 @@ places-run d (suc k) (suc c) l at h =
     (λ i _. ap (λ (x : ℕ). recordOf d 8 (drop x l)) (next-place at W i)))
     q)
     ∙ sym (append-assoc (f 1) (rows c (λ v. f (suc v))) (replicate ((suc k - suc c) * 8) 0))
-
-pub length-cell-from : (d : ℕ) (l : List ℕ) (at : ℕ) → fieldIn l at 4 ≤ 8 → length (cellFrom d l at) ≡ 65
-unfolding cellFrom cellOf channelFrom
-length-cell-from d l at h =
-    let c : ℕ = fieldIn l at 4 in
-    let run : List ℕ = runFrom d 8 (messageWidth d) c l (at + 4) in
-    let e : length (placesOf 8 (messagesOf d c (drop (at + 4) l))) ≡ length run + length (replicate {A = ℕ} ((8 - c) * 8) 0) =
-    ap length (places-run d 8 c l (at + 4) h) ∙ length-append run (replicate {A = ℕ} ((8 - c) * 8) 0) in
-    omega (arith, e, length-run-from d 8 (messageWidth d) c l (at + 4) (omega arith), length-replicate {A = ℕ} ((8 - c) * 8) 0)

@@ -17,7 +17,7 @@ use Rattle.image.specs.Parts.{Inside, Depth, heightsFrom}
 use Rattle.image.specs.Places.{messagesOf}
 use Rattle.image.specs.Records.{placesOf}
 use Rattle.image.specs.Widths.{widthsOf, recordBits, recordOf, heightWidth, messageWidth, nodeWidth}
-use Rattle.image.proofs.RecordParts.{total-height, total-message, room, length-record-bits}
+use Rattle.image.proofs.RecordLaws.{total-height, total-message, room, length-record-bits}
 use Rattle.image.proofs.PartLaws.{length-row-at, runBits, below-run-bits, length-run-bits, run-bits-more}
 use Rattle.image.proofs.PartLaws.{runFrom, length-run-from, run-from-more, heights-run, places-run}
 
@@ -116,7 +116,7 @@ module _ {d m w n : ℕ} {start ws : List ℕ} {at : ℕ} (r : Run d m w n start
                 ∙ ap (λ (x : ℕ). k * x) (r .bits)
 
             more : length (recordBits d us) ≡ w
-            more = length-record-bits d m us (r .most) wide ∙ r .bits
+            more = length-record-bits d m (r .most) us wide ∙ r .bits
 
             one : written (written start at (runBits d m k ws)) (at + k * w) (recordBits d us) ≡ written start at (runBits d m (k + 1) ws)
             one =

@@ -13,15 +13,15 @@ use Rattle.bits.specs.Bits.{bits}
 use Rattle.bits.proofs.Numbers.{length-bits}
 use Rattle.protocol.proofs.TestsLaws.{Choice, yes!, no!, choice}
 use Rattle.tables.specs.Rows.{rows}
+use Rattle.tables.proofs.RowsMore.{later, length-rows}
 use Rattle.image.specs.Image.{nodeBits, messageBits, channelBits, channelsBits, networkBits}
 use Rattle.image.specs.Places.{fieldIn, nodePlace, heightFrom, messagesOf, channelFrom, walked, channelNext, channelsNext}
 use Rattle.image.specs.Places.{channelsPlace, channelsFromPlace, channelPlace, imageEnd, recordsIn}
 use Rattle.image.specs.Records.{Records}
 use Rattle.image.specs.Widths.{recordBits, recordOf, heightWidth, messageWidth, nodeWidth}
-use Rattle.image.proofs.ChannelLaws.{AllSound, length-height, length-messages, messages-read, channel-same, channel-other, next-same, next-other}
+use Rattle.image.proofs.ChannelLaws.{AllSound, length-messages, messages-read, channel-same, channel-other, next-same, next-other}
 use Rattle.image.proofs.FieldInLaws.{field-head, field-behind}
-use Rattle.image.proofs.RecordLaws.{Sound, record-of-bits}
-use Rattle.image.proofs.RowsMore.{later, length-rows}
+use Rattle.image.proofs.RecordLaws.{Sound, length-height, record-of-bits}
 use Rattle.image.proofs.WalkLaws.{walk-at, walk-end, walk-length, walked-add}
 
 -- the words of nodes 1 to n fit their fields

@@ -1,7 +1,7 @@
--- The words of a height or a message and their bits: what was put is got, what was got is put. Over a depth's width d from 1 to 32.
--- Assumes that the words are Sound: each fits its field, the depth with its sign.
+-- The words of a height or a message and their bits: lengths, room, what was put is got, what was got is put. Over a depth's width d, 1 to 32.
+-- Assumes that words that are got back are Sound: each fits its field, the depth with its sign.
 use Prim.Native.Nat.{ℕ, zero, suc, _+_, _-_, _*_, _%_, _^_, _≤_, _<_}
-use native.Mathlib.Nat.{mod-eq-of-lt, add-mul-mod-self-right, two-pow-succ, mod-mod, lt-of-lt-of-le}
+use native.Mathlib.Nat.{mod-eq-of-lt, add-mul-mod-self-right, two-pow-succ, mod-mod}
 use native.Mathlib.Decide.{decLt}
 use native.Mathlib.Omega.{arith}
 use mathlib.Core.Path.{_≡_, refl, sym, ap, _∙_}
@@ -11,11 +11,13 @@ use borrow.Author.Tests.{lt-ltb, le-ltb}
 use lib.ListN.{length, take, drop, getD, set, length-take, length-drop, length-set}
 use lib.Seq.{set-set, set-getD, getD-set-same, getD-take}
 use lib.Pow.{pow-pos, pow-mono, high-ones}
-use Rattle.bits.specs.Bits.{bits, unpacked, written, total, spread, gathered}
-use Rattle.bits.proofs.Numbers.{Below, bits-cong, number-lt, below-take, below-drop}
+use Rattle.bits.specs.Bits.{bits, unpacked, written, total, spread, gathered, RoomFor}
+use Rattle.bits.proofs.Numbers.{Below, bits-cong, below-nil, below-cons, below-take, below-drop}
 use Rattle.bits.proofs.Bytes.{below-unpacked, length-unpacked, written-tail, written-own}
 use Rattle.bits.proofs.Fields.{Fitting, spread-gathered, gathered-spread, length-gathered, length-spread, below-spread}
-use Rattle.image.specs.Widths.{widthsOf, extendedOf, recordBits, recordOf}
+use Rattle.image.specs.Places.{fieldIn}
+use Rattle.image.specs.Widths.{widthsOf, extendedOf, recordBits, recordOf, heightWidth, messageWidth}
+use Rattle.image.proofs.FieldInLaws.{field-in-lt}
 
 -- a word that w bits in two's complement hold
 abbrev pub Holds : ℕ → ℕ → Type 0
@@ -69,6 +71,44 @@ extended-of-mod w x h k r = ⊎-elim
     ap (λ (t : ℕ). extendedOf w (t % 2 ^ w)) z ∙ ap (extendedOf w) (extended-mod w y h k b) ∙ sym z)
     r
 
+-- ---- the widths
+
+pub length-widths : (d k : ℕ) → k ≤ 8 → length (take k (widthsOf d)) ≡ k
+length-widths d k h = simp length-take (omega arith)
+
+pub depth-width : (d k : ℕ) → 4 ≤ k → getD (take k (widthsOf d)) 3 0 ≡ d
+depth-width d k h = getD-take k (widthsOf d) 3 0 h
+
+pub total-height : (d : ℕ) → total (take 7 (widthsOf d)) ≡ heightWidth d
+unfolding total heightWidth
+total-height d = omega arith
+
+pub total-message : (d : ℕ) → total (take 8 (widthsOf d)) ≡ messageWidth d
+unfolding total messageWidth
+total-message d = omega arith
+
+data Narrow : List ℕ → Type 0 where
+  none : Narrow []
+  more : (w : ℕ) {ws : List ℕ} → w < 33 → Narrow ws → Narrow (w ∷ ws)
+
+narrow : {ws : List ℕ} → Narrow ws → Below 33 ws
+narrow none = below-nil 33 (omega arith)
+narrow (more w {ws} h r) = below-cons 33 w ws h (narrow r)
+
+narrow-widths : (d : ℕ) → d ≤ 32 → Narrow (widthsOf d)
+narrow-widths d h =
+    more 32 (omega arith) (more 5 (omega arith) (more 1 (omega arith) (more d (omega arith)
+    (more 32 (omega arith) (more 5 (omega arith) (more 5 (omega arith) (more 32 (omega arith) none)))))))
+
+-- a record of m words, which take w bits, has room where w bits stand inside the bytes
+pub room : (xs : List ℕ) (at d m w : ℕ) → d ≤ 32 → total (take m (widthsOf d)) ≡ w → at + w < 2 ^ 32 → at + w ≤ 8 * length xs
+    → RoomFor xs at (take m (widthsOf d))
+room xs at d m w h e s i = record {
+  narrow = λ k. omega (arith, below-take 33 m (widthsOf d) (omega arith) (narrow (narrow-widths d h)) k);
+  small = omega arith;
+  inside = omega arith;
+}
+
 -- ---- the words and their fields
 
 -- a value may be replaced by one with the same low bits
@@ -86,16 +126,12 @@ pub record Sound (d : ℕ) (vs : List ℕ) : Type 0 where
   pub others : Fitting (take (length vs) (widthsOf d)) (set vs 3 (getD vs 3 0 % 2 ^ d))
   pub depth : Holds d (getD vs 3 0)
 
+-- each word that is got fits its width
 pub gathered-lt : (ws bs : List ℕ) → Below 2 bs → (i : ℕ) → i < length ws → getD (gathered ws bs) i 0 < 2 ^ getD ws i 0
-unfolding gathered
+unfolding gathered fieldIn
 gathered-lt [] bs b i h = absurd (omega arith)
-gathered-lt (w ∷ ws) bs b zero h =
-    let n : length (take w bs) ≤ w = simp length-take (omega arith) in
-    lt-of-lt-of-le (number-lt (take w bs) (below-take 2 w bs (omega arith) b)) (pow-mono n)
+gathered-lt (w ∷ ws) bs b zero h = field-in-lt bs 0 w b
 gathered-lt (w ∷ ws) bs b (suc i) h = gathered-lt ws (drop w bs) (below-drop 2 w bs b) i (omega arith)
-
-pub length-widths : (d k : ℕ) → k ≤ 8 → length (take k (widthsOf d)) ≡ k
-length-widths d k h = simp length-take (omega arith)
 
 pub length-record : (d k : ℕ) → k ≤ 8 → (bs : List ℕ) → length (recordOf d k bs) ≡ k
 unfolding recordOf
@@ -108,6 +144,12 @@ unfolding recordBits
 length-record-bits d k h us q =
     length-spread (take (length us) (widthsOf d)) us (rw q (length-widths d k h)) ∙ ap (λ (m : ℕ). total (take m (widthsOf d))) q
 
+pub length-height : (d : ℕ) (ws : List ℕ) → length ws ≡ 7 → length (recordBits d ws) ≡ heightWidth d
+length-height d ws e = length-record-bits d 7 (omega arith) ws e ∙ total-height d
+
+pub length-message : (d : ℕ) (ws : List ℕ) → length ws ≡ 8 → length (recordBits d ws) ≡ messageWidth d
+length-message d ws e = length-record-bits d 8 (omega arith) ws e ∙ total-message d
+
 pub below-record : (d : ℕ) (us : List ℕ) → Below 2 (recordBits d us)
 unfolding recordBits
 below-record d us = below-spread (take (length us) (widthsOf d)) us
@@ -115,9 +157,6 @@ below-record d us = below-spread (take (length us) (widthsOf d)) us
 -- ---- the round trips of n words
 
 module _ (d n : ℕ) (h : 1 ≤ d) (k : d ≤ 32) (four : 4 ≤ n) (eight : n ≤ 8) where
-  width-three : getD (take n (widthsOf d)) 3 0 ≡ d
-  width-three = getD-take n (widthsOf d) 3 0 four
-
   -- what was put is got
   pub record-of-bits : (vs rest : List ℕ) → length vs ≡ n → Sound d vs → recordOf d n (recordBits d vs ++ rest) ≡ vs
   unfolding recordOf recordBits
@@ -127,7 +166,7 @@ module _ (d n : ℕ) (h : 1 ≤ d) (k : d ≤ 32) (four : 4 ≤ n) (eight : n �
       let us : List ℕ = set vs 3 (v % 2 ^ d) in
       let f : spread (take (length vs) (widthsOf d)) vs ≡ spread ws us =
       ap (λ (m : ℕ). spread (take m (widthsOf d)) vs) e
-      ∙ sym (spread-set ws vs 3 (v % 2 ^ d) (rw width-three (mod-mod v (2 ^ d)))) in
+      ∙ sym (spread-set ws vs 3 (v % 2 ^ d) (rw (depth-width d n four) (mod-mod v (2 ^ d)))) in
       let g : gathered ws (spread (take (length vs) (widthsOf d)) vs ++ rest) ≡ us =
       ap (λ (t : List ℕ). gathered ws (t ++ rest)) f
       ∙ gathered-spread ws us rest (length-widths d n eight ∙ sym (length-set vs 3 (v % 2 ^ d) ∙ e)) (rw e at (s .others)) in
@@ -145,9 +184,9 @@ module _ (d n : ℕ) (h : 1 ≤ d) (k : d ≤ 32) (four : 4 ≤ n) (eight : n �
   bits-of-record bs b r =
       let ws : List ℕ = take n (widthsOf d) in
       let g : List ℕ = gathered ws bs in
-      let x : getD g 3 0 < 2 ^ d = rw width-three at (gathered-lt ws bs b 3 (omega (arith, length-widths d n eight))) in
+      let x : getD g 3 0 < 2 ^ d = rw (depth-width d n four) at (gathered-lt ws bs b 3 (omega (arith, length-widths d n eight))) in
       ap (λ (m : ℕ). spread (take m (widthsOf d)) (set g 3 (extendedOf d (getD g 3 0)))) (length-record d n eight bs)
-      ∙ spread-set ws g 3 (extendedOf d (getD g 3 0)) (rw width-three (extended-mod d (getD g 3 0) h k x ∙ sym (mod-eq-of-lt x)))
+      ∙ spread-set ws g 3 (extendedOf d (getD g 3 0)) (rw (depth-width d n four) (extended-mod d (getD g 3 0) h k x ∙ sym (mod-eq-of-lt x)))
       ∙ spread-gathered ws bs b r
 
   -- and at any bit place of bytes
@@ -160,6 +199,6 @@ module _ (d n : ℕ) (h : 1 ≤ d) (k : d ≤ 32) (four : 4 ≤ n) (eight : n �
   pub record-get-put : (xs : List ℕ) (at : ℕ) → Below 256 xs → at + total (take n (widthsOf d)) ≤ 8 * length xs
       → written xs at (recordBits d (recordOf d n (drop at (unpacked xs)))) ≡ xs
   record-get-put xs at b r =
-      let room : total (take n (widthsOf d)) ≤ length (drop at (unpacked xs)) = simp length-drop (omega (arith, length-unpacked xs)) in
-      ap (written xs at) (bits-of-record (drop at (unpacked xs)) (below-drop 2 at (unpacked xs) (below-unpacked xs)) room)
+      let inside : total (take n (widthsOf d)) ≤ length (drop at (unpacked xs)) = simp length-drop (omega (arith, length-unpacked xs)) in
+      ap (written xs at) (bits-of-record (drop at (unpacked xs)) (below-drop 2 at (unpacked xs) (below-unpacked xs)) inside)
       ∙ written-own xs at (total (take n (widthsOf d))) b r

@@ -3,15 +3,12 @@
 use Prim.Native.Nat.{ℕ, zero, suc, _+_, _-_, _*_, _≤_, _<_}
 use native.Mathlib.Nat.{mul-assoc}
 use native.Mathlib.Omega.{arith}
-use mathlib.Core.Bool.{Bool, true, false, cond}
 use mathlib.Core.List.{List, [], _∷_, _++_, map}
-use mathlib.Core.Logic.{_⊎_, inl, inr}
+use mathlib.Core.Logic.{inl, inr}
 use mathlib.Core.Path.{_≡_, refl, sym, ap, ap₂, _∙_}
 use borrow.Author.Tests.{eq-eqb, ne-eqb}
-use lib.Dec.{eqb}
-use lib.ListN.{length, take, drop, getD, replicate, length-append, length-replicate}
+use lib.ListN.{length, take, drop, getD, replicate, length-append, length-map, length-replicate}
 use lib.Seq.{take-at, drop-at}
-use Rattle.protocol.specs.Component.{Node}
 use Rattle.protocol.specs.Network.{Message, Network}
 use Rattle.protocol.proofs.TestsLaws.{SameOrNot, equal?}
 use Rattle.tables.specs.Cell.{messageWords, placeWords, cellWords}
@@ -19,16 +16,15 @@ use Rattle.tables.specs.Load.{tablesOf}
 use Rattle.tables.specs.Row.{nodeWords}
 use Rattle.tables.specs.Rows.{rows, rowAt}
 use Rattle.tables.specs.Tables.{Tables, tables, width, cellWidth, nodeOf, channelOf}
+use Rattle.tables.proofs.RowsMore.{rows-same, length-rows, rows-at}
 use Rattle.tables.proofs.WordRuns.{row-in}
 use Rattle.image.specs.Records.{Records, recordsOf, rowOf, placesOf, cellOf, messagesFrom, tablesFrom}
 use Rattle.image.proofs.ReadBack.{Agree}
-use Rattle.image.proofs.RowsMore.{rows-same, length-rows, rows-at}
 
 -- ---- a network's tables
 
 pub length-words : (ms : List Message) → length (map messageWords ms) ≡ length ms
-length-words [] = refl
-length-words (m ∷ ms) = ap suc (length-words ms)
+length-words ms = length-map ms messageWords
 
 places-words : (k : ℕ) (ms : List Message) → placesOf k (map messageWords ms) ≡ placeWords k ms
 unfolding placesOf placeWords

@@ -7,8 +7,8 @@ use mathlib.Core.Path.{_≡_, refl, sym, ap, _∙_}
 use mathlib.Core.List.{List, _++_, append-assoc}
 use lib.ListN.{length, drop, length-append}
 use Rattle.tables.specs.Rows.{rows}
+use Rattle.tables.proofs.RowsMore.{later, rows-more, rows-all, behind}
 use Rattle.image.specs.Places.{walked}
-use Rattle.image.proofs.RowsMore.{later, rows-more, rows-all, behind}
 
 module _ (l : List ℕ) (f : ℕ → List ℕ) (next : ℕ → ℕ → ℕ) where
   -- READING WHAT WAS WRITTEN: where a step passes the piece that stands at its place, the place after k steps is that of the rest

@@ -1,19 +1,18 @@
 -- The whole image as bytes: an image that was written is accepted and read, an accepted image is that of the records read from it.
 -- Assumes that the records fit (Fit), a depth's width from 1 to 32, and a header of at least 21 bits.
 use Prim.Native.Nat.{ℕ, zero, suc, _+_, _-_, _*_, _/_, _%_, _≤_, _<_}
-use native.Mathlib.Nat.{lt-of-lt-of-le}
 use native.Mathlib.Omega.{arith}
 use mathlib.Core.Path.{_≡_, sym, ap, ap₂, _∙_}
 use mathlib.Core.List.{List, _++_, append-assoc}
-use lib.ListN.{length, take, drop, replicate, length-append, length-drop, length-take}
-use lib.Pow.{pow-pos, pow-mono}
+use lib.ListN.{length, take, drop, replicate, length-append, length-drop}
+use lib.Pow.{pow-pos}
 use Rattle.bits.specs.Bits.{bits, number, packed, unpacked}
-use Rattle.bits.proofs.Numbers.{Below, below-nil, below-cons, below-append, below-take, below-drop, number-lt}
+use Rattle.bits.proofs.Numbers.{Below, below-nil, below-cons, below-append, below-drop}
 use Rattle.bits.proofs.Bytes.{below-unpacked, length-unpacked, packed-unpacked}
 use Rattle.image.specs.Image.{headerBits, networkBits, padded, bytesOf, imageOf}
 use Rattle.image.specs.Places.{fieldIn, imageEnd, recordsIn}
 use Rattle.image.specs.Records.{Records}
-use Rattle.image.proofs.FieldInLaws.{field-head, field-behind, field-tail}
+use Rattle.image.proofs.FieldInLaws.{field-head, field-behind, field-tail, field-in-lt}
 use Rattle.image.proofs.ImageBits.{below-zeros, number-zeros, zeros, padding}
 use Rattle.image.proofs.ImageBits.{wholeBits, below-whole, unpacked-image, length-image, length-whole, behind-header}
 use Rattle.image.proofs.ReadBack.{Fit, Agree, network-read, end-read, place-read}
@@ -60,12 +59,10 @@ module _ (version h d n : ℕ) (r : Records) where
 -- ---- bytes that bits make are below 256
 
 pub below-packed : (n : ℕ) (l : List ℕ) → Below 2 l → Below 256 (packed n l)
-unfolding packed
+unfolding packed fieldIn
 below-packed zero l b = below-nil 256 (omega arith)
 below-packed (suc n) l b =
-    let e : length (take 8 l) ≤ 8 = simp length-take (omega arith) in
-    let v : number (take 8 l) < 256 = lt-of-lt-of-le (number-lt (take 8 l) (below-take 2 8 l (omega arith) b)) (pow-mono e) in
-    below-cons 256 (number (take 8 l)) (packed n (drop 8 l)) v (below-packed n (drop 8 l) (below-drop 2 8 l b))
+    below-cons 256 (number (take 8 l)) (packed n (drop 8 l)) (field-in-lt l 0 8 b) (below-packed n (drop 8 l) (below-drop 2 8 l b))
 
 pub below-image : (version h d n : ℕ) (r : Records) → Below 256 (imageOf version h d n r)
 unfolding imageOf bytesOf padded

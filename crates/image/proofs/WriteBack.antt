@@ -17,10 +17,10 @@ use Rattle.image.specs.Places.{fieldIn, nodePlace, heightFrom, messagesO
 use Rattle.image.specs.Places.{channelsPlace, channelsFromPlace, channelPlace, imageEnd, recordsIn}
 use Rattle.image.specs.Records.{Records}
 use Rattle.image.specs.Widths.{widthsOf, recordBits, recordOf, heightWidth, messageWidth, nodeWidth}
-use Rattle.image.proofs.ChannelLaws.{total-height, total-message, length-messages-of, channel-same, channel-other, next-same, next-other}
+use Rattle.image.proofs.ChannelLaws.{length-messages-of, channel-same, channel-other, next-same, next-other}
 use Rattle.image.proofs.FieldInLaws.{field-tail}
 use Rattle.image.proofs.PlaceLaws.{node-in, start-in, channel-passed-in}
-use Rattle.image.proofs.RecordLaws.{bits-of-record}
+use Rattle.image.proofs.RecordLaws.{total-height, total-message, bits-of-record}
 use Rattle.image.proofs.WalkLaws.{walk-write, walked-add}
 
 module _ (d : ℕ) (one : 1 ≤ d) (wide : d ≤ 32) (l : List ℕ) (bl : Below 2 l) where

@@ -1,4 +1,5 @@
 // A node's record: the clock, both sets and n heights, between a row of words and a bit place.
+// Assumes the bounds that each `requires` states.
 ghost use mathlib.Core.Path.{_≡_};
 ghost use Prim.Native.Nat.{_+_, _*_, _≤_};
 ghost use lib.ListN.{length};

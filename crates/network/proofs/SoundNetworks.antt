@@ -29,7 +29,8 @@ use Rattle.tables.specs.Load.{load, tablesOf}
 use Rattle.tables.specs.Row.{clockIn, neighborsIn, formingIn, heightIn, nodeWords}
 use Rattle.tables.specs.Rows.{part, rowAt, rows}
 use Rattle.tables.specs.Tables.{Tables, Sized, sized, width, nodeOf, channelOf}
-use Rattle.tables.proofs.Back.{Storable, node-of, cell-of, set-back, node-height, queue-back, row-of, words-length, message-length, tables-sized}
+use Rattle.tables.proofs.Back.{Storable, node-of, cell-of, set-back, node-height, queue-back, words-length, message-length, tables-sized}
+use Rattle.tables.proofs.RowsMore.{rows-at}
 use Rattle.places.specs.Place.{ownPlace, viewPlace, channelPlace, placeIn}
 use Rattle.network.proofs.CheckLaws.{is-sized}
 use Rattle.network.specs.Check.{SaidCheck, checked, place, faultInRow, faultFrom, firstFault, checkOn}
@@ -138,7 +139,7 @@ module _ (n : ℕ) (p : Network) (ok : Storable n p) (u : ℕ) (a : Node n u) wh
         ≡ drop ((v - 1) * 7) (rows n (λ z. heightWords (p .height u z))) =
         drop-append-add (p .clock u ∷ setOf n (p .neighbors u) ∷ setOf n (p .forming u) ∷ []) (rows n (λ z. heightWords (p .height u z))) ((v - 1) * 7) in
         ap (take 7) d
-        ∙ row-of 7 n (λ z. heightWords (p .height u z)) (λ z. words-length (p .height u z)) (v - 1) (omega (arith, b .low, b .high))
+        ∙ rows-at 7 n (λ z. heightWords (p .height u z)) (λ i _. words-length (p .height u (suc i))) (v - 1) (omega (arith, b .low, b .high))
         ∙ ap (λ (k : ℕ). heightWords (p .height u k)) e
 
     zero-words : p .height u v ≡ zeroHeight → allZero (heightWords (p .height u v)) ≡ true

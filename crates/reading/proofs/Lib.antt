@@ -1,5 +1,5 @@
 -- Laws of the reader.
-pub mod PlaceSteps
+pub mod Bounds
 pub mod Steps
 pub mod WalkLaws
 pub mod ByteLaws

@@ -16,8 +16,7 @@ use Rattle.image.specs.Places.{channelsPlace, channelsFromPlace, channelPlace, 
 use Rattle.image.specs.Records.{rowOf, cellOf, placesOf, messagesFrom}
 use Rattle.image.specs.Widths.{messageWidth, nodeWidth}
 use Rattle.image.proofs.PartLaws.{row-read, length-row-from, length-cell-from}
-use Rattle.image.proofs.PlaceLaws.{start-in}
-use Rattle.image.proofs.RowsMore.{length-rows, rows-same}
+use Rattle.tables.proofs.RowsMore.{length-rows, rows-same}
 use Rattle.protocol.specs.Component.{Two}
 use Rattle.protocol.proofs.TestsLaws.{SameOrNot, equal?}
 use Rattle.tables.specs.Rows.{rows}
@@ -25,7 +24,8 @@ use Rattle.tables.specs.Tables.{width, cellWidth}
 use Rattle.tables.proofs.RowsLaws.{row-fits}
 use Rattle.reading.specs.Cells.{cellIn, cellBehind, ChannelIn, ChannelsIn}
 use Rattle.reading.specs.Examine.{Walkable}
-use Rattle.reading.proofs.PlaceSteps.{next-own, next-other, walked-before, channel-after, channels-after}
+use Rattle.image.proofs.ChannelLaws.{next-same, next-other}
+use Rattle.image.proofs.PlaceLaws.{channel-on, channels-on, start-in, walked-le}
 
 -- ---- the nodes' records
 pub node-inside : {h d n : ℕ} {xs : List ℕ} → Walkable h d n (unpacked xs) → (i : ℕ) → i < n → Inside xs (h + i * nodeWidth d n) (nodeWidth d n)
@@ -59,7 +59,7 @@ module _ (d : ℕ) (l : List ℕ) (u v q : ℕ) where
   own-cell e = rw (eq-eqb u v e)
 
   pub own-next : u ≡ v → q ≡ channelNext d l u v q
-  own-next e = sym (next-own d l u v q (eq-eqb u v e))
+  own-next e = sym (next-same d l u v q (eq-eqb u v e))
 
   -- to another
   pub other-cell : (u ≡ v → ⊥) → cellFrom d l q ≡ cellIn d l u v q
@@ -112,7 +112,7 @@ module _ {d : ℕ} {l : List ℕ} {u q k p : ℕ} (at : ChannelAt d l u q k p) w
   channel-of {n} c h =
       let next : channelNext d l u (k + 1) p ≡ walked (channelNext d l u) (k + 1) q = channel-next refl .place in
       let on : walked (channelNext d l u) (k + 1) q ≤ walked (channelNext d l u) n q =
-      walked-before (channelNext d l u) (channel-after d l u) (k + 1) n q (omega arith) in
+      walked-le (channelNext d l u) (channel-on d l u) (k + 1) n q (omega arith) in
       record {
         few = λ o. subst (λ (x : ℕ). fieldIn l x 4 ≤ 8) (sym (at .place)) (c .few k h (λ same. o (omega arith)));
         inside = omega (arith, c .inside);
@@ -148,7 +148,7 @@ module _ {h d n : ℕ} {l : List ℕ} {k p : ℕ} (at : ChannelsAt h d n l k p) 
       let q : ℕ = channelsPlace h d n in
       let next : channelsNext d n l (k + 1) p ≡ walked (channelsNext d n l) (k + 1) q = channels-next refl .place in
       let on : walked (channelsNext d n l) (k + 1) q ≤ walked (channelsNext d n l) n q =
-      walked-before (channelsNext d n l) (channels-after d l n) (k + 1) n q (omega arith) in
+      walked-le (channelsNext d n l) (channels-on d n l) (k + 1) n q (omega arith) in
       let y : k + 1 - 1 ≡ k = omega arith in
       record {
         few = λ j a o.

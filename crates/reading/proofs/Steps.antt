@@ -18,7 +18,8 @@ use Rattle.image.specs.Widths.{messageWidth}
 use Rattle.reading.specs.declared.Walk.{Walk}
 use Rattle.reading.specs.declared.Walk.the-variants.{At, Over, Cut}
 use Rattle.reading.specs.Walk.{channelStep, onward, steps}
-use Rattle.reading.proofs.PlaceSteps.{next-own, next-other, messages-small}
+use Rattle.image.proofs.ChannelLaws.{next-same, next-other}
+use Rattle.reading.proofs.Bounds.{messages-small}
 use Rattle.reading.proofs.Walk as declared
 
 -- a walk that `let .. else` turns away
@@ -145,7 +146,7 @@ channel-stepped d l u v q r small e =
     go true b f g ea ef eg w =
         let z : q ≡ r = cc in
         record {
-          place = sym z ∙ sym (next-own d l u v q ea);
+          place = sym z ∙ sym (next-same d l u v q ea);
           near = record { near = omega arith; inside = λ h. omega arith };
           few = λ other. absurd (other (eqb-true u v ea));
         }

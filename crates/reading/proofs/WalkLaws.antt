@@ -15,7 +15,8 @@ use Rattle.protocol.specs.Component.{Node, Two}
 use Rattle.reading.specs.declared.Walk.the-variants.{At, Over, Cut}
 use Rattle.reading.specs.Examine.{Walkable}
 use Rattle.reading.specs.Walk.{channelStep, channelsFromWalk, channelsWalk, walk}
-use Rattle.reading.proofs.PlaceSteps.{nodes-small, walked-after, walked-before, channel-after, channels-after}
+use Rattle.image.proofs.PlaceLaws.{channel-on, channels-on, start-in, walked-le}
+use Rattle.reading.proofs.Bounds.{nodes-small}
 use Rattle.reading.proofs.Steps.{Near, Went, went, steps-go, Stepped, channel-stepped}
 
 -- ---- accepted walks
@@ -124,7 +125,7 @@ module _ (d n : ℕ) (l : List ℕ) where
       (λ j h.
       let k : suc j - 1 ≡ j = omega arith in
       channel-goes d l u (suc j) (walked (channelNext d l u) j q)
-      (le-trans (walked-before (channelNext d l u) (channel-after d l u) (suc j) n q h) inside)
+      (le-trans (walked-le (channelNext d l u) (channel-on d l u) (suc j) n q h) inside)
       (λ other.
       subst (λ (x : ℕ). fieldIn l (walked (channelNext d l u) x q) 4 ≤ 8) k (few (suc j) (record { low = omega arith; high = h }) other)))
 
@@ -138,7 +139,7 @@ module _ (d n : ℕ) (l : List ℕ) where
       (λ j h.
       let k : suc j - 1 ≡ j = omega arith in
       row-goes (suc j) (walked (channelsNext d n l) j q)
-      (le-trans (walked-before (channelsNext d n l) (channels-after d l n) (suc j) n q h) inside)
+      (le-trans (walked-le (channelsNext d n l) (channels-on d n l) (suc j) n q h) inside)
       (λ v node other.
       subst (λ (x : ℕ). fieldIn l (walked (channelNext d l (suc j)) (v - 1) (walked (channelsNext d n l) x q)) 4 ≤ 8) k
       (few (suc j) v (record { one = record { low = omega arith; high = h }; other = node; differ = other }))))
@@ -148,6 +149,5 @@ pub walk-goes : (h d n : ℕ) (l : List ℕ) → imageEnd h d n l ≤ length l
 unfolding walk imageEnd channelPlace channelsFromPlace
 walk-goes h d n l inside few =
     let p : ℕ = channelsPlace h d n in
-    let starts : ltb (length l) p ≡ false =
-    le-ltb (length l) p (le-trans (walked-after (channelsNext d n l) (channels-after d l n) n p) inside) in
+    let starts : ltb (length l) p ≡ false = le-ltb (length l) p (le-trans (start-in h d n l) inside) in
     rw starts (channels-go d n l p inside few)

@@ -9,7 +9,7 @@ use mathlib.Core.Logic.{_⊎_, inl, inr}
 use mathlib.Core.Path.{_≡_, refl, sym, ap, _∙_, fun-ext}
 use lib.Dec.{eqb, leb}
 use lib.ListN.{getD, length, take, drop, replicate, length-append, length-replicate}
-use lib.Seq.{getD-take, getD-drop, getD-append-add, take-at, drop-at, drop-drop}
+use lib.Seq.{getD-take, getD-drop, getD-append-add}
 use borrow.Author.Tests.{ne-eqb, leb-false, le-leb}
 use Rattle.height.specs.Height.{zeroHeight}
 use Rattle.height.specs.Words.{heightAt, heightWords}
@@ -32,6 +32,7 @@ use Rattle.tables.specs.Rows.{rowAt, rows}
 use Rattle.tables.specs.Tables.{Tables, Sized, width, cellWidth, nodeOf, channelOf, pairOf}
 use Rattle.tables.proofs.CellLaws.{messages-moved}
 use Rattle.tables.proofs.RowLaws.{height-past}
+use Rattle.tables.proofs.RowsMore.{length-rows, rows-at}
 use Rattle.tables.proofs.TablesLaws.{is-node}
 use Rattle.tables.proofs.WordRuns.{row-in}
 use Rattle.tables.proofs.Wordy.{Wordy, fits-wordy, zero-wordy}
@@ -46,26 +47,6 @@ pub record Storable (n : ℕ) (p : Network) : Type 0 where
   pub messages : (u v : ℕ) → Node n u → Node n v → AllWordy (p .channel u v)
   pub short : (u v : ℕ) → Node n u → Node n v → length (p .channel u v) ≤ 8
 
--- ---- rows laid end to end
-
-pub rows-length : (w k : ℕ) (f : ℕ → List ℕ) → ((i : ℕ) → length (f i) ≡ w) → length (rows k f) ≡ k * w
-unfolding rows
-rows-length w zero f h = omega arith
-rows-length w (suc k) f h =
-    length-append (f 1) (rows k (λ i. f (suc i))) ∙ omega (arith, h 1, rows-length w k (λ i. f (suc i)) (λ i. h (suc i)))
-
-pub row-of : (w k : ℕ) (f : ℕ → List ℕ) → ((i : ℕ) → length (f i) ≡ w) → (i : ℕ) → i < k → rowAt w i (rows k f) ≡ f (suc i)
-unfolding rows rowAt
-row-of w zero f h i l = absurd (omega arith)
-row-of w (suc k) f h zero l =
-    let z : 0 * w ≡ 0 = omega arith in
-    rw z (take-at (f 1) (rows k (λ i. f (suc i))) w (h 1))
-row-of w (suc k) f h (suc i) l =
-    let e : suc i * w ≡ w + i * w = omega arith in
-    rw e (ap (take w) (sym (drop-drop (i * w) w (f 1 ++ rows k (λ i. f (suc i))))
-    ∙ ap (drop (i * w)) (drop-at (f 1) (rows k (λ i. f (suc i))) w (h 1)))
-    ∙ row-of w k (λ i. f (suc i)) (λ i. h (suc i)) i (omega arith))
-
 -- ---- a node's words
 
 pub words-length : (h : Height) → length (heightWords h) ≡ 7
@@ -74,7 +55,7 @@ words-length h = refl
 
 pub node-length : (n c : ℕ) (N F : ℕ → Bool) (H : ℕ → Height) → length (nodeWords n c N F H) ≡ width n
 unfolding nodeWords
-node-length n c N F H = let e = rows-length 7 n (λ v. heightWords (H v)) (λ v. words-length (H v)) in omega arith
+node-length n c N F H = let e = length-rows n 7 (λ v. heightWords (H v)) (λ i _. words-length (H (suc i))) in omega arith
 
 -- a height read in a row of words
 height-row : (ws : List ℕ) (i : ℕ) → heightAt ws (i * 7) ≡ heightAt (rowAt 7 i ws) 0
@@ -94,7 +75,7 @@ unfolding nodeWords heightIn
 node-height n c N F H k l w =
     past-three c (setOf n N) (setOf n F) (rows n (λ v. heightWords (H v))) (k * 7)
     ∙ height-row (rows n (λ v. heightWords (H v))) k
-    ∙ ap (λ (xs : List ℕ). heightAt xs 0) (row-of 7 n (λ v. heightWords (H v)) (λ v. words-length (H v)) k l)
+    ∙ ap (λ (xs : List ℕ). heightAt xs 0) (rows-at 7 n (λ v. heightWords (H v)) (λ i _. words-length (H (suc i))) k l)
     ∙ words-height (H (suc k)) (w .delta) (w .nlts)
 
 -- ---- a channel's words
@@ -159,12 +140,22 @@ set-back n f (suc k) = go (choice (isNode n (suc k)))
 -- ---- the network
 
 module _ (n : ℕ) (p : Network) where
+  length-row : (u : ℕ) → length (nodeWords n (p .clock u) (p .neighbors u) (p .forming u) (p .height u)) ≡ width n
+  length-row u = node-length n (p .clock u) (p .neighbors u) (p .forming u) (p .height u)
+
+  -- the cells of the channels from u, and all
+  length-from : (u : ℕ) → length (rows n (λ v. cellWords (p .channel u v))) ≡ n * cellWidth
+  length-from u = length-rows n cellWidth (λ v. cellWords (p .channel u v)) (λ i _. cell-length (p .channel u (suc i)))
+
+  length-cells : length (rows n (λ u. rows n (λ v. cellWords (p .channel u v)))) ≡ n * (n * cellWidth)
+  length-cells = length-rows n (n * cellWidth) (λ u. rows n (λ v. cellWords (p .channel u v))) (λ i _. length-from (suc i))
+
   pub node-of : (u : ℕ) → Node n u → nodeOf n u (tablesOf n p .nodes) ≡ nodeWords n (p .clock u) (p .neighbors u) (p .forming u) (p .height u)
   unfolding tablesOf
   node-of u a =
       let e : suc (u - 1) ≡ u = omega (arith, a .low) in
-      row-of (width n) n (λ u. nodeWords n (p .clock u) (p .neighbors u) (p .forming u) (p .height u))
-      (λ u. node-length n (p .clock u) (p .neighbors u) (p .forming u) (p .height u)) (u - 1) (omega (arith, a .low, a .high))
+      rows-at (width n) n (λ u. nodeWords n (p .clock u) (p .neighbors u) (p .forming u) (p .height u)) (λ i _. length-row (suc i))
+      (u - 1) (omega (arith, a .low, a .high))
       ∙ ap (λ (u : ℕ). nodeWords n (p .clock u) (p .neighbors u) (p .forming u) (p .height u)) e
 
   pub cell-of : (u v : ℕ) → Node n u → Node n v → channelOf n u v (tablesOf n p .channels) ≡ cellWords (p .channel u v)
@@ -174,26 +165,19 @@ module _ (n : ℕ) (p : Network) where
       let f : suc (v - 1) ≡ v = omega (arith, b .low) in
       let i : u - 1 < n = omega (arith, a .low, a .high) in
       let j : v - 1 < n = omega (arith, b .low, b .high) in
-      let len : (u : ℕ) → length (rows n (λ v. cellWords (p .channel u v))) ≡ n * cellWidth =
-      λ u. rows-length cellWidth n (λ v. cellWords (p .channel u v)) (λ v. cell-length (p .channel u v)) in
-      sym (row-in cellWidth n (u - 1) (v - 1) (rows n (λ u. rows n (λ v. cellWords (p .channel u v))))
-      (rows-length (n * cellWidth) n (λ u. rows n (λ v. cellWords (p .channel u v))) len) i j)
-      ∙ ap (rowAt cellWidth (v - 1)) (row-of (n * cellWidth) n (λ u. rows n (λ v. cellWords (p .channel u v))) len (u - 1) i)
-      ∙ row-of cellWidth n (λ v. cellWords (p .channel (suc (u - 1)) v)) (λ v. cell-length (p .channel (suc (u - 1)) v)) (v - 1) j
+      sym (row-in cellWidth n (u - 1) (v - 1) (rows n (λ u. rows n (λ v. cellWords (p .channel u v)))) length-cells i j)
+      ∙ ap (rowAt cellWidth (v - 1)) (rows-at (n * cellWidth) n (λ u. rows n (λ v. cellWords (p .channel u v))) (λ k _. length-from (suc k)) (u - 1) i)
+      ∙ rows-at cellWidth n (λ v. cellWords (p .channel (suc (u - 1)) v)) (λ k _. cell-length (p .channel (suc (u - 1)) (suc k))) (v - 1) j
       ∙ rw (e, f)
 
   pub tables-sized : 1 ≤ n → n ≤ 16 → Sized n (tablesOf n p)
   unfolding tablesOf
-  tables-sized l h =
-      let cells = rows-length (n * cellWidth) n (λ u. rows n (λ v. cellWords (p .channel u v)))
-      (λ u. rows-length cellWidth n (λ v. cellWords (p .channel u v)) (λ v. cell-length (p .channel u v))) in
-      record {
-        low = l;
-        few = h;
-        nodes = rows-length (width n) n (λ u. nodeWords n (p .clock u) (p .neighbors u) (p .forming u) (p .height u))
-            (λ u. node-length n (p .clock u) (p .neighbors u) (p .forming u) (p .height u));
-        channels = cells ∙ omega arith;
-      }
+  tables-sized l h = record {
+    low = l;
+    few = h;
+    nodes = length-rows n (width n) (λ u. nodeWords n (p .clock u) (p .neighbors u) (p .forming u) (p .height u)) (λ i _. length-row (suc i));
+    channels = length-cells ∙ omega arith;
+  }
 
 module _ (n : ℕ) (p : Network) (ok : Storable n p) where
   heights-of : (u : ℕ) → Node n u → (v : ℕ) → heightIn (nodeWords n (p .clock u) (p .neighbors u) (p .forming u) (p .height u)) v

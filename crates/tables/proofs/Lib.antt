@@ -1,5 +1,6 @@
 -- Laws of the lent tables.
 pub mod RowsLaws
+pub mod RowsMore
 pub mod WordRuns
 pub mod Wordy
 pub mod RowLaws

@@ -8,7 +8,7 @@ use native.Mathlib.Nat.{mul-le-mul-right, mul-le-mul-left, le-trans, suc-mul}
 use native.Mathlib.Omega.{arith}
 use native.Mathlib.Decide.{decLt}
 use lib.ListN.{length, getD, take, drop, length-append, length-take, length-drop, take-append-drop, List·getD-append}
-use lib.Seq.{length-take-le, take-at, drop-at, getD-take, getD-drop, getD-append-add, ext-getD}
+use lib.Seq.{length-take-le, take-all, take-at, drop-at, getD-take, getD-drop, getD-append-add, ext-getD}
 use Rattle.height.specs.declared.Height.{Height}
 use Rattle.height.specs.Words.{heightAt, storedAt}
 use Rattle.protocol.specs.Component.{Node}
@@ -112,8 +112,13 @@ module _ (w count : ℕ) (xs : List ℕ) (size : length xs ≡ count * w) (i : �
         side (yes l) = inl (row-fits w j i l)
         side (no l) = inr (row-fits w i j (omega arith))
 
--- ---- a lent part of a slice is a row
+-- ---- a lent part of a slice
 
+-- `&xs[a..]`
+pub rest-is : (a : ℕ) (xs : List ℕ) → take (length xs - a) (drop a xs) ≡ drop a xs
+rest-is a xs = take-all (length xs - a) (drop a xs) (omega (arith, length-drop a xs))
+
+-- one that is a row
 module _ (w i : ℕ) {a e : ℕ} (xs : List ℕ) (starts : a ≡ i * w) (ends : e ≡ a + w) where
   wide : e - a ≡ w
   wide = omega arith

@@ -1,28 +1,17 @@
 -- Bits and their pad written from the first bit on are the bits' bytes at the front of the bytes; those behind stay.
 -- Assumes that the bytes are below 256.
-use Prim.Native.Nat.{ℕ, zero, suc, _+_, _-_, _*_, _/_, _%_, _≤_}
+use Prim.Native.Nat.{ℕ, zero, suc, _+_, _*_, _/_, _≤_}
 use native.Mathlib.Nat.{zero-add, suc-add}
 use native.Mathlib.Omega.{arith}
 use mathlib.Core.List.{List, [], _∷_, _++_}
 use mathlib.Core.Path.{_≡_, sym, ap, ap₂, _∙_}
-use lib.ListN.{length, take, drop, replicate, length-append, length-drop, length-replicate}
+use lib.ListN.{length, take, drop, length-drop}
 use lib.Seq.{take-append-le, drop-append-le}
 use Rattle.bits.specs.Bits.{number, unpacked, packed, over, written}
-use Rattle.bits.proofs.Bytes.{unpacked-drop, packed-unpacked, length-packed}
+use Rattle.bits.proofs.Bytes.{unpacked-drop, packed-unpacked}
 use Rattle.bits.proofs.Numbers.{Below, below-drop}
 use Rattle.image.specs.Image.{padded, bytesOf}
-
--- the pad fills the last byte
-pub length-padded : (l : List ℕ) → length (padded l) ≡ 8 * ((length l + 7) / 8)
-unfolding padded
-length-padded l =
-    let k : ℕ = (8 - length l % 8) % 8 in
-    let e : length (l ++ replicate k 0) ≡ length l + length (replicate {A = ℕ} k 0) = length-append l (replicate k 0) in
-    omega (arith, e, length-replicate {A = ℕ} k 0)
-
-pub length-bytes : (l : List ℕ) → length (bytesOf l) ≡ (length l + 7) / 8
-unfolding bytesOf
-length-bytes l = length-packed ((length l + 7) / 8) (padded l)
+use Rattle.image.proofs.ImageBits.{length-padded, length-bytes}
 
 -- bytes of m bytes' bits and of those behind them
 packed-append : (m k : ℕ) (a b : List ℕ) → length a ≡ 8 * m → packed (m + k) (a ++ b) ≡ packed m a ++ packed k b

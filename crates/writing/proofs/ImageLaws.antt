@@ -12,12 +12,12 @@ use Rattle.bits.proofs.Numbers.{Below, below-append}
 use Rattle.image.specs.Image.{headerBits, padded, image}
 use Rattle.image.specs.Parts.{Inside, Depth}
 use Rattle.image.specs.Widths.{heightWidth, nodeWidth}
+use Rattle.image.proofs.ImageBits.{below-header, length-header, length-bytes}
 use Rattle.tables.specs.Fit.{TablesFit}
 use Rattle.tables.specs.Load.{load}
 use Rattle.tables.specs.Tables.{Tables}
 use Rattle.writing.specs.Words.{nodesBits, cellsBits, wordsBits, Counts}
-use Rattle.writing.proofs.FrontLaws.{length-bytes, image-front}
-use Rattle.writing.proofs.HeaderLaws.{length-header, below-header}
+use Rattle.writing.proofs.FrontLaws.{image-front}
 use Rattle.writing.proofs.LengthLaws.{length-nodes, below-nodes, below-cells, cells-le, cells-most}
 use Rattle.writing.proofs.WordsLaws.{image-words}
 
@@ -44,7 +44,7 @@ module _ (n : ℕ) (t : Tables) (fit : TablesFit n t) where
   words-end =
       let ns : List ℕ = nodesBits 16 n (t .nodes) in
       let cs : List ℕ = cellsBits 16 n (t .channels) in
-      omega (arith, length-append (headerBits 1 32 n) (ns ++ cs), length-append ns cs, length-header 1 n, nodes-end)
+      omega (arith, length-append (headerBits 1 32 n) (ns ++ cs), length-append ns cs, length-header 1 32 n (omega arith), nodes-end)
 
   pub end-le : cellsEnd n t ≤ 321568
   unfolding cellsBits
@@ -93,9 +93,9 @@ module _ (n : ℕ) (t : Tables) (fit : TablesFit n t) where
         let ns : List ℕ = nodesBits 16 n (t .nodes) in
         let cs : List ℕ = cellsBits 16 n (t .channels) in
         ap (λ (l : List ℕ). written l (cellsStart n) cs)
-        (written-written xs 0 hs ns 32 (below-header 1 32 n) (omega (arith, length-header 1 n)) (omega (arith, nodes-end, end-in)))
+        (written-written xs 0 hs ns 32 (below-header 1 32 n) (omega (arith, length-header 1 32 n (omega arith))) (omega (arith, nodes-end, end-in)))
         ∙ written-written xs 0 (hs ++ ns) cs (cellsStart n) (below-append 2 hs ns (below-header 1 32 n) (below-nodes 16 n (t .nodes)))
-        (omega (arith, length-append hs ns, length-header 1 n, nodes-end)) end-in
+        (omega (arith, length-append hs ns, length-header 1 32 n (omega arith), nodes-end)) end-in
         ∙ ap (written xs 0) (append-assoc hs ns cs)
 
     pad-written : (e : ℕ) → e ≡ cellsEnd n t

@@ -13,13 +13,15 @@ use lib.ListN.{length, length-append}
 use Rattle.bits.proofs.Numbers.{Below, below-nil}
 use Rattle.image.specs.Parts.{Inside, Depth, rowBits, cellBits}
 use Rattle.image.specs.Widths.{messageWidth, nodeWidth}
-use Rattle.image.proofs.PartLaws.{length-rows, below-rows, length-row-bits, below-row-bits, length-cell-bits, below-cell-bits}
+use Rattle.image.proofs.PartLaws.{length-row-bits, below-row-bits, length-cell-bits, below-cell-bits}
+use Rattle.image.proofs.RowsMore.{below-rows}
 use Rattle.protocol.specs.Component.{Node}
 use Rattle.protocol.proofs.TestsLaws.{Choice, yes!, no!, choice, equal?}
 use Rattle.tables.specs.Cell.{count}
 use Rattle.tables.specs.Rows.{rows}
 use Rattle.tables.specs.Tables.{width, cellWidth, nodeOf, channelOf}
 use Rattle.tables.proofs.RowsLaws.{node-length, channel-length}
+use Rattle.tables.proofs.RowsMore.{length-rows}
 use Rattle.writing.specs.Words.{nodesBits, cellBitsAt, cellsFromBits, cellsBits, Counts}
 
 -- ---- the nodes
@@ -50,7 +52,7 @@ module _ (d n : ℕ) (ns : List ℕ) (size : length ns ≡ n * width n) where
 
   pub length-nodes : length (nodesBits d n ns) ≡ n * nodeWidth d n
   unfolding nodesBits nodeBitsAt
-  length-nodes = length-rows (nodeWidth d n) n (nodeBitsAt d n ns) (λ i l. length-node (suc i) (record { low = omega arith; high = l }))
+  length-nodes = length-rows n (nodeWidth d n) (nodeBitsAt d n ns) (λ i l. length-node (suc i) (record { low = omega arith; high = l }))
 
   -- room for n records is room for these
   pub nodes-inside : {xs : List ℕ} {at : ℕ} → Inside xs at (n * nodeWidth d n) → Inside xs at (length (rows n (nodeBitsAt d n ns)))

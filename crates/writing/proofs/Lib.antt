@@ -1,4 +1,5 @@
--- Laws of the writer.
+-- Laws of the writer: pieces laid end to end, their lengths, and that they are the image.
+-- Assumes nothing of its own: each module says what it assumes.
 pub mod HeaderLaws
 pub mod LengthLaws
 pub mod PieceLaws

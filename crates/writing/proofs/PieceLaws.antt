@@ -10,8 +10,9 @@ use Rattle.bits.specs.Bits.{written}
 use Rattle.bits.proofs.Bytes.{written-written, written-none, length-written}
 use Rattle.bits.proofs.Numbers.{Below}
 use Rattle.image.specs.Parts.{Inside}
-use Rattle.image.proofs.PartLaws.{rows-more, below-rows}
+use Rattle.image.proofs.RowsMore.{below-rows}
 use Rattle.tables.specs.Rows.{rows}
+use Rattle.tables.proofs.RowsMore.{rows-more}
 
 -- ---- before the turn v, v - 1 pieces are laid
 

@@ -1,20 +1,21 @@
 -- The bits of both tables' words are those of the network that the tables hold (`words-bits`), with the header too (`whole-bits`):
 -- so the words make the image (`image-words`). Assumes that the tables fit: their network gives their words back.
-use Prim.Native.Nat.{ℕ, zero, suc, _<_, _≤_}
+use Prim.Native.Nat.{ℕ, suc, _<_, _≤_}
 use native.Mathlib.Omega.{arith}
 use mathlib.Core.Bool.{cond}
 use mathlib.Core.List.{List, [], _∷_, _++_, map}
 use mathlib.Core.Path.{_≡_, refl, sym, ap, ap₂, _∙_}
 use lib.Dec.{eqb}
-use lib.ListN.{length, getD, length-map}
+use lib.ListN.{length}
 use Rattle.bits.specs.Bits.{bits}
 use Rattle.image.specs.Image.{headerBits, nodeBits, messageBits, channelBits, channelsBits, networkBits, bytesOf, imageOf, image}
 use Rattle.image.specs.Parts.{rowBits, cellBits}
-use Rattle.image.specs.Records.{Records, recordsOf, rowOf, placesOf, cellOf}
-use Rattle.image.proofs.PartLaws.{rows-same, row-bits, cell-bits}
+use Rattle.image.specs.Records.{Records, recordsOf, rowOf}
+use Rattle.image.proofs.PartLaws.{row-bits, cell-bits}
+use Rattle.image.proofs.TablesRecords.{length-words, cell-words, Eights, enil, econs}
 use Rattle.protocol.specs.Component.{Node}
 use Rattle.protocol.specs.Network.{Message}
-use Rattle.tables.specs.Cell.{count, queue, messageWords, placeWords, cellWords}
+use Rattle.tables.specs.Cell.{count, queue, messageWords}
 use Rattle.tables.specs.Fit.{TablesFit}
 use Rattle.tables.specs.Load.{load}
 use Rattle.tables.specs.Row.{nodeWords}
@@ -22,25 +23,15 @@ use Rattle.tables.specs.Rows.{rows}
 use Rattle.tables.specs.Tables.{Tables, nodeOf, channelOf}
 use Rattle.tables.proofs.Back.{node-of, cell-of, words-length, message-length}
 use Rattle.tables.proofs.CellLaws.{messages-length}
+use Rattle.tables.proofs.RowsMore.{rows-same}
 use Rattle.tables.proofs.TablesLaws.{tables-back, load-channel}
 use Rattle.writing.specs.Words.{nodesBits, cellBitsAt, cellsFromBits, cellsBits, wordsBits}
 
--- ---- a cell's words, as records make them
+-- ---- a cell's words
 
-places-words : (k : ℕ) (ms : List Message) → placeWords k ms ≡ placesOf k (map messageWords ms)
-unfolding placeWords placesOf
-places-words zero ms = refl
-places-words (suc k) [] = rw (places-words k [])
-places-words (suc k) (m ∷ ms) = rw (places-words k ms)
-
-pub cell-words : (ms : List Message) → cellWords ms ≡ cellOf (map messageWords ms)
-unfolding cellWords cellOf
-cell-words ms = ap₂ (λ (a : ℕ) (b : List ℕ). a ∷ b) (sym (length-map ms messageWords)) (places-words 8 ms)
-
-message-words : (ms : List Message) (i : ℕ) → i < length (map messageWords ms) → length (getD (map messageWords ms) i []) ≡ 8
-message-words [] i h = absurd (omega arith)
-message-words (m ∷ ms) zero h = message-length m
-message-words (m ∷ ms) (suc i) h = message-words ms i (omega arith)
+message-words : (ms : List Message) → Eights (map messageWords ms)
+message-words [] = enil
+message-words (m ∷ ms) = econs (message-length m) (message-words ms)
 
 queue-length : (cell : List ℕ) → length (queue cell) ≡ count cell
 unfolding queue
@@ -70,9 +61,9 @@ module _ (d n : ℕ) (t : Tables) (fit : TablesFit n t) where
   unfolding recordsOf
   cell-at u v a b =
       let ms : List Message = load n t .channel u v in
-      let few : length (map messageWords ms) ≤ 8 = rw (length-map ms messageWords) (few-messages u v a b) in
+      let few : length (map messageWords ms) ≤ 8 = rw (length-words ms) (few-messages u v a b) in
       ap (λ (s : Tables). cellBits d (channelOf n u v (s .channels))) (sym (tables-back n t fit))
-      ∙ ap (cellBits d) (cell-of n (load n t) u v a b ∙ cell-words ms)
+      ∙ ap (cellBits d) (cell-of n (load n t) u v a b ∙ sym (cell-words ms))
       ∙ cell-bits d (map messageWords ms) few (message-words ms)
 
   channel-bits : (u v : ℕ) → Node n u → Node n v → cellBitsAt d n (t .channels) u v ≡ channelBits d (recordsOf n (load n t)) u v

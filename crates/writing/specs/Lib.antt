@@ -1,2 +1,3 @@
 -- Both tables' words as an image's bits.
+-- Assumes nothing: these are definitions.
 pub mod Words

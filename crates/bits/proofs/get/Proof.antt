@@ -1,4 +1,5 @@
--- `bits::get` meets its contract. The invariant: the value is the field of the bits read so far. Assumes nothing.
+-- `bits::get` meets its contract. The invariant: the value is the field of the bits read so far.
+-- The measure is how many bits are left. Assumes nothing.
 use Prim.Native.Nat.{ℕ, _+_, _-_, _*_, _/_, _%_, _^_, _≤_, _<_}
 use native.Mathlib.Omega.{arith}
 use mathlib.Core.Path.{_≡_, refl, sym, ap, ap₂, _∙_}

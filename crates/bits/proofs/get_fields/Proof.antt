@@ -1,4 +1,5 @@
--- `bits::get_fields` meets its contract. Assumes nothing.
+-- `bits::get_fields` meets its contract. The invariant: the first k values are read, the others are as they were, and the place is behind them.
+-- The measure is how many are left. Assumes nothing.
 use Prim.Native.Nat.{ℕ, _+_, _-_, _*_, _/_, _%_, _^_, _≤_, _<_}
 use native.Mathlib.Omega.{arith}
 use mathlib.Core.Path.{_≡_, refl, sym, ap, ap₂, _∙_}
@@ -17,7 +18,10 @@ use Rattle.bits.proofs.get.Reads as get-reads
 use Rattle.bits.proofs.wide.Reads as wide-reads
 
 abbrev Inv-loop : tie.InvT-loop
-Inv-loop bytes at widths values₀ place₀ k₀ values place k = (k ≤ length widths) × ((place ≡ at + total (take k widths)) × ((length values ≡ length values₀) × (values ≡ gathered (take k widths) (drop at (unpacked bytes)) ++ drop k values₀)))
+Inv-loop bytes at widths values₀ place₀ k₀ values place k =
+    (k ≤ length widths)
+    × ((place ≡ at + total (take k widths))
+    × ((length values ≡ length values₀) × (values ≡ gathered (take k widths) (drop at (unpacked bytes)) ++ drop k values₀)))
 
 abbrev μ-loop : tie.MeasureT-loop
 μ-loop bytes at widths values₀ place₀ k₀ values place k = length widths - k
@@ -54,7 +58,9 @@ slice-write-values c = omega arith
 
 -- src/lib.rt:100:9
 add-place : tie.Need-add-place Inv-loop μ-loop
-add-place c = omega (arith, total-in (c .before .before .before .before .before .before .before .before .args .widths .now) (c .before .before .before .before .loop .k) (omega arith))
+add-place c =
+    let a = c .before .before .before .before .before .before .before .before .args in
+    omega (arith, total-in (a .widths .now) (c .before .before .before .before .loop .k) (omega arith))
 
 -- src/lib.rt:101:9
 add-k : tie.Need-add-k Inv-loop μ-loop
@@ -67,7 +73,8 @@ loop-less c = omega arith
 -- src/lib.rt:97:5
 loop-again : tie.Need-loop-again Inv-loop μ-loop
 loop-again c =
-    let a = c .before .before .before .before .before .before .before .before .args in
+    let s = c .before .before .before .before .before .before .before .before in
+    let a = s .args in
     let l = c .before .before .before .before .loop in
     let ws = a .widths .now in
     let h : l .k < length ws = omega arith in
@@ -79,7 +86,7 @@ loop-again c =
         (
           length-set (l .values) (l .k) (c .get .result) ∙ l .inv .1 .1 .0,
           ap (set (l .values) (l .k)) e
-              ∙ get-more (a .bytes .now) (a .at) ws (a .values .now) (l .values) (l .k) h (c .before .before .before .before .before .before .before .before .pre .1) (l .inv .1 .1 .1),
+              ∙ get-more (a .bytes .now) (a .at) ws (a .values .now) (l .values) (l .k) h (s .pre .1) (l .inv .1 .1 .1),
         ),
       ),
     )

@@ -1,4 +1,5 @@
--- `bits::put` meets its contract. The invariant: the bits written so far stand over the bits at entry. Assumes nothing.
+-- `bits::put` meets its contract. The invariant: the bits written so far stand over the bits at entry.
+-- The measure is how many bits are left. Assumes nothing.
 use Prim.Native.Nat.{ℕ, _+_, _-_, _*_, _/_, _%_, _^_, _≤_, _<_}
 use native.Mathlib.Omega.{arith}
 use mathlib.Core.Path.{_≡_, refl, sym, ap, ap₂, _∙_}
@@ -17,7 +18,9 @@ use Rattle.bits.proofs.run.Reads as run-reads
 use Rattle.bits.proofs.spliced.Reads as spliced-reads
 
 abbrev Inv-loop : tie.InvT-loop
-Inv-loop buf₀ at width value done₀ buf done = (done ≤ width) × ((length buf ≡ length buf₀) × (Below 256 buf × (unpacked buf ≡ over (unpacked buf₀) at (bits done (value / 2 ^ (width - done))))))
+Inv-loop buf₀ at width value done₀ buf done =
+    (done ≤ width)
+    × ((length buf ≡ length buf₀) × (Below 256 buf × (unpacked buf ≡ over (unpacked buf₀) at (bits done (value / 2 ^ (width - done))))))
 
 abbrev μ-loop : tie.MeasureT-loop
 μ-loop buf₀ at width value done₀ buf done = width - done

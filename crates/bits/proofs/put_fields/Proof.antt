@@ -1,4 +1,5 @@
--- `bits::put_fields` meets its contract. Assumes nothing.
+-- `bits::put_fields` meets its contract. The invariant: the first k values are written, each at its width, and the place is behind them.
+-- The measure is how many are left. Assumes nothing.
 use Prim.Native.Nat.{ℕ, _+_, _-_, _*_, _/_, _%_, _^_, _≤_, _<_}
 use native.Mathlib.Omega.{arith}
 use mathlib.Core.Path.{_≡_, refl, sym, ap, ap₂, _∙_}
@@ -17,7 +18,9 @@ use Rattle.bits.proofs.put.Reads as put-reads
 use Rattle.bits.proofs.wide.Reads as wide-reads
 
 abbrev Inv-loop : tie.InvT-loop
-Inv-loop buf₀ at widths values place₀ k₀ buf place k = (k ≤ length widths) × ((place ≡ at + total (take k widths)) × ((length buf ≡ length buf₀) × (buf ≡ written buf₀ at (spread (take k widths) (take k values)))))
+Inv-loop buf₀ at widths values place₀ k₀ buf place k =
+    (k ≤ length widths)
+    × ((place ≡ at + total (take k widths)) × ((length buf ≡ length buf₀) × (buf ≡ written buf₀ at (spread (take k widths) (take k values)))))
 
 abbrev μ-loop : tie.MeasureT-loop
 μ-loop buf₀ at widths values place₀ k₀ buf place k = length widths - k
@@ -56,7 +59,10 @@ put-requires c κs =
 
 -- src/lib.rt:85:9
 add-place : tie.Need-add-place Inv-loop μ-loop
-add-place c = omega (arith, total-in (c .before .before .before .before .before .before .before .before .before .before .before .before .args .widths .now) (c .before .before .before .before .before .before .before .before .loop .k) (omega arith))
+add-place c =
+    let a = c .before .before .before .before .before .before .before .before .before .before .before .before .args in
+    let k = c .before .before .before .before .before .before .before .before .loop .k in
+    omega (arith, total-in (a .widths .now) k (omega arith))
 
 -- src/lib.rt:86:9
 add-k : tie.Need-add-k Inv-loop μ-loop
@@ -69,17 +75,22 @@ loop-less c = omega arith
 -- src/lib.rt:82:5
 loop-again : tie.Need-loop-again Inv-loop μ-loop
 loop-again c =
-    let a = c .before .before .before .before .before .before .before .before .before .before .before .before .args in
+    let s = c .before .before .before .before .before .before .before .before .before .before .before .before in
+    let a = s .args in
     let l = c .before .before .before .before .before .before .before .before .loop in
+    let w = c .before .before .before .before .before .wide in
     let ws = a .widths .now in
     let vs = a .values .now in
     let h : l .k < length ws = omega arith in
     let e : c .before .before .put .last .0 ≡ written (a .buf .now) (a .at) (spread (take (l .k + 1) ws) (take (l .k + 1) vs)) =
     c .before .before .put .ensures
-    ∙ ap₂ (λ (x : List ℕ) (y : ℕ). written x y (bits (c .before .before .before .before .before .wide .result) (getD vs (l .k) 0))) (l .inv .1 .1 .1) (l .inv .1 .0)
-    ∙ ap (λ (x : ℕ). written (written (a .buf .now) (a .at) (spread (take (l .k) ws) (take (l .k) vs))) (a .at + total (take (l .k) ws)) (bits x (getD vs (l .k) 0))) (c .before .before .before .before .before .wide .ensures)
-    ∙ put-more (a .buf .now) (a .at) ws vs (l .k) h (c .before .before .before .before .before .before .before .before .before .before .before .before .pre .1) (c .before .before .before .before .before .before .before .before .before .before .before .before .pre .0 .inside) in
-    (omega arith, (omega (arith, total-more ws (l .k) h), (ap length e ∙ length-written (a .buf .now) (a .at) (spread (take (l .k + 1) ws) (take (l .k + 1) vs)), e)))
+    ∙ ap₂ (λ (x : List ℕ) (y : ℕ). written x y (bits (w .result) (getD vs (l .k) 0))) (l .inv .1 .1 .1) (l .inv .1 .0)
+    ∙ ap (λ (x : ℕ). written (written (a .buf .now) (a .at) (spread (take (l .k) ws) (take (l .k) vs))) (a .at + total (take (l .k) ws))
+    (bits x (getD vs (l .k) 0)))
+    (w .ensures)
+    ∙ put-more (a .buf .now) (a .at) ws vs (l .k) h (s .pre .1) (s .pre .0 .inside) in
+    let n = ap length e ∙ length-written (a .buf .now) (a .at) (spread (take (l .k + 1) ws) (take (l .k + 1) vs)) in
+    (omega arith, (omega (arith, total-more ws (l .k) h), (n, e)))
 
 -- src/lib.rt:76:1
 same-length : tie.Need-same-length Inv-loop μ-loop
@@ -91,7 +102,8 @@ returns c =
     let a = c .before .before .before .before .before .args in
     let l = c .before .loop in
     l .inv .1 .1 .1
-    ∙ ap₂ (λ (x y : List ℕ). written (a .buf .now) (a .at) (spread x y)) (take-all (l .k) (a .widths .now) (omega arith)) (take-all (l .k) (a .values .now) (omega arith))
+    ∙ ap₂ (λ (x y : List ℕ). written (a .buf .now) (a .at) (spread x y))
+    (take-all (l .k) (a .widths .now) (omega arith)) (take-all (l .k) (a .values .now) (omega arith))
 
 pub put-fields-spec : {M : Type 1} → statement M
 put-fields-spec =

@@ -1,4 +1,5 @@
--- `bits::spliced` meets its contract. Assumes nothing.
+-- `bits::spliced` meets its contract: nothing is shifted out of the sum of high part, new bits and low part.
+-- Assumes nothing.
 use Prim.Native.Nat.{ℕ, _-_, _/_, _%_, _^_}
 use native.Mathlib.Nat.{lt-trans}
 use native.Mathlib.Omega.{arith}
@@ -55,7 +56,9 @@ shl-result c = search needs
 
 -- src/lib.rt:58:8
 add-result : tie.Need-add-result
-add-result c = record { fits = splice-fits (c .args .off) (c .args .n) (8 - c .args .off - c .args .n) (c .args .b) (c .args .p) (omega arith) (c .pre .1) (c .fits .b .fits) }
+add-result c = record {
+  fits = splice-fits (c .args .off) (c .args .n) (8 - c .args .off - c .args .n) (c .args .b) (c .args .p) (omega arith) (c .pre .1) (c .fits .b .fits);
+}
 
 -- src/lib.rt:58:28
 cast-result-2 : tie.Need-cast-result-2
@@ -67,11 +70,17 @@ shl-result-2 c = search needs
 
 -- src/lib.rt:58:6
 add-result-2 : tie.Need-add-result-2
-add-result-2 c = record { fits = lt-trans (splice-byte (c .args .off) (c .args .n) (8 - c .args .off - c .args .n) (c .args .b) (c .args .p) (omega arith) (c .pre .1) (c .fits .b .fits)) (lit< tt) }
+add-result-2 c = record {
+  fits = lt-trans
+      (splice-byte (c .args .off) (c .args .n) (8 - c .args .off - c .args .n) (c .args .b) (c .args .p) (omega arith) (c .pre .1) (c .fits .b .fits))
+      (lit< tt);
+}
 
 -- src/lib.rt:58:5
 cast-result-3 : tie.Need-cast-result-3
-cast-result-3 c = record { fits = splice-byte (c .args .off) (c .args .n) (8 - c .args .off - c .args .n) (c .args .b) (c .args .p) (omega arith) (c .pre .1) (c .fits .b .fits) }
+cast-result-3 c = record {
+  fits = splice-byte (c .args .off) (c .args .n) (8 - c .args .off - c .args .n) (c .args .b) (c .args .p) (omega arith) (c .pre .1) (c .fits .b .fits);
+}
 
 -- src/lib.rt:50:1
 returns : tie.Need-returns

@@ -1,4 +1,5 @@
--- `image::cells::get_cell` meets its contract. Assumes nothing.
+-- `image::cells::get_cell` meets its contract: the count is set before the messages.
+-- Assumes nothing.
 use Prim.Native.Nat.{ℕ, _+_, _*_}
 use native.Mathlib.Omega.{arith}
 use mathlib.Core.Path.{_≡_, sym, ap, _∙_}

@@ -1,4 +1,5 @@
--- `image::cells::put_cell` meets its contract. Assumes nothing.
+-- `image::cells::put_cell` meets its contract: the count and the messages are put end to end.
+-- Assumes nothing.
 use native.Mathlib.Omega.{arith}
 use mathlib.Core.Path.{refl}
 use Rattle.image.specs.Widths.{messageWidth}

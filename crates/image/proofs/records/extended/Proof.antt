@@ -1,10 +1,11 @@
--- `image::records::extended` meets its contract. Assumes nothing.
+-- `image::records::extended` meets its contract: the shift is half of 2 ^ width, and what is added is 2 ^ 32 - 2 ^ width.
+-- Assumes nothing.
 use Prim.Native.Nat.{ℕ, _+_, _-_, _*_, _%_, _^_, _≤_, _<_}
 use native.Mathlib.Omega.{arith}
 use mathlib.Core.Path.{_≡_, sym}
 use lib.Pow.{pow-pos, pow-mono}
 use Rattle.bits.proofs.Turns.{one-shl}
-use Rattle.image.proofs.RecordParts.{half, extended-low, extended-high}
+use Rattle.image.proofs.RecordLaws.{pow-half, extended-low, extended-high}
 use borrow.Author.Needs.{needs}
 use Rattle.image.proofs.records.extended.Statement.{statement}
 use Rattle.image.proofs.records.extended.Tie as tie
@@ -17,7 +18,7 @@ record Powers (w : ℕ) : Type 0 where
   most : 2 ^ w ≤ 2 ^ 32
 
 powers : (w : ℕ) → 1 ≤ w → w ≤ 32 → Powers w
-powers w h k = record { shift = one-shl (w - 1) 32 (omega arith); halves = half w h; some = pow-pos (w - 1); most = pow-mono k }
+powers w h k = record { shift = one-shl (w - 1) 32 (omega arith); halves = pow-half w h; some = pow-pos (w - 1); most = pow-mono k }
 
 sub-half : tie.Need-sub-half
 sub-half c = search needs

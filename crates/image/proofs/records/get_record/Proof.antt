@@ -1,4 +1,5 @@
--- `image::records::get_record` meets its contract. Assumes nothing.
+-- `image::records::get_record` meets its contract: the fields are got at the first widths of a message, and the depth is extended.
+-- Assumes nothing.
 use Prim.Native.Nat.{ℕ, _^_, _<_}
 use native.Mathlib.Omega.{arith}
 use mathlib.Core.Path.{_≡_, sym, ap, _∙_}
@@ -8,7 +9,7 @@ use Rattle.bits.specs.Bits.{unpacked, gathered}
 use Rattle.bits.proofs.Numbers.{below-drop}
 use Rattle.bits.proofs.Bytes.{below-unpacked}
 use Rattle.image.specs.Widths.{widthsOf, recordOf, extendedOf}
-use Rattle.image.proofs.RecordParts.{length-first, depth-width, gathered-lt}
+use Rattle.image.proofs.RecordLaws.{length-widths, depth-width, gathered-lt}
 use borrow.Author.Needs.{needs}
 use Rattle.image.proofs.records.get_record.Statement.{statement}
 use Rattle.image.proofs.records.get_record.Tie as tie
@@ -22,13 +23,13 @@ array-share-prefix-w c = search needs
 slice-aggregate-get-fields : tie.Need-slice-aggregate-get-fields
 slice-aggregate-get-fields c =
     let a = c .before .before .before .before .args in
-    sym (rw (c .before .widths .ensures) (length-first (a .depth) (length (a .words .now)) (omega arith)))
+    sym (rw (c .before .widths .ensures) (length-widths (a .depth) (length (a .words .now)) (omega arith)))
 
 get-fields-requires : tie.Need-get-fields-requires
 get-fields-requires c κs =
     let s = c .before .before .before .before .before in
     let a = s .args in
-    rw (c .before .before .widths .ensures) (s .pre .0, length-first (a .depth) (length (a .words .now)) (omega arith))
+    rw (c .before .before .widths .ensures) (s .pre .0, length-widths (a .depth) (length (a .words .now)) (omega arith))
 
 slice-read-extended : tie.Need-slice-read-extended
 slice-read-extended c = search needs
@@ -46,7 +47,7 @@ extended-requires c κs =
     ∙ ap (λ (l : List ℕ). gathered (take n l) bs) (c .before .before .before .before .before .before .widths .ensures) in
     let q : getD (gathered ws bs) 3 0 < 2 ^ a .depth =
     rw e at (gathered-lt ws bs (below-drop 2 (a .at) (unpacked (a .bytes .now)) (below-unpacked (a .bytes .now))) 3
-    (omega (arith, length-first (a .depth) n (omega arith)))) in
+    (omega (arith, length-widths (a .depth) n (omega arith)))) in
     ((s .pre .1 .1, rw e at (s .pre .0 .narrow 3)), rw g q)
 
 slice-write-words : tie.Need-slice-write-words

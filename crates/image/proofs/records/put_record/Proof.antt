@@ -1,4 +1,5 @@
--- `image::records::put_record` meets its contract. Assumes nothing.
+-- `image::records::put_record` meets its contract: the fields are put at the first widths of a message.
+-- Assumes nothing.
 use Prim.Native.Nat.{ℕ}
 use native.Mathlib.Omega.{arith}
 use mathlib.Core.Path.{sym, ap, _∙_}
@@ -6,7 +7,7 @@ use mathlib.Core.List.{List}
 use lib.ListN.{length, take}
 use Rattle.bits.specs.Bits.{written, spread}
 use Rattle.image.specs.Widths.{recordBits}
-use Rattle.image.proofs.RecordParts.{length-first}
+use Rattle.image.proofs.RecordLaws.{length-widths}
 use borrow.Author.Needs.{needs}
 use Rattle.image.proofs.records.put_record.Statement.{statement}
 use Rattle.image.proofs.records.put_record.Tie as tie
@@ -20,13 +21,13 @@ array-share-prefix-w c = search needs
 slice-aggregate-put-fields : tie.Need-slice-aggregate-put-fields
 slice-aggregate-put-fields c =
     let a = c .before .before .before .before .before .args in
-    sym (rw (c .before .before .widths .ensures) (length-first (a .depth) (length (a .words .now)) (omega arith)))
+    sym (rw (c .before .before .widths .ensures) (length-widths (a .depth) (length (a .words .now)) (omega arith)))
 
 put-fields-requires : tie.Need-put-fields-requires
 put-fields-requires c κs =
     let s = c .before .before .before .before .before in
     let a = s .args in
-    rw (c .before .before .widths .ensures) (s .pre .0, length-first (a .depth) (length (a .words .now)) (omega arith))
+    rw (c .before .before .widths .ensures) (s .pre .0, length-widths (a .depth) (length (a .words .now)) (omega arith))
 
 same-length : tie.Need-same-length
 same-length c = search needs

@@ -1,4 +1,5 @@
--- `image::rows::get_row` meets its contract. Assumes nothing.
+-- `image::rows::get_row` meets its contract: three words are set before the heights.
+-- Assumes nothing.
 use native.Mathlib.Omega.{arith}
 use mathlib.Core.Path.{sym, ap, _∙_}
 use lib.ListN.{length, length-set}

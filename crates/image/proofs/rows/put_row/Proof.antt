@@ -1,4 +1,5 @@
--- `image::rows::put_row` meets its contract. Assumes nothing.
+-- `image::rows::put_row` meets its contract: three fields and the heights are put end to end.
+-- Assumes nothing.
 use Prim.Native.Nat.{_-_, _*_}
 use native.Mathlib.Omega.{arith}
 use mathlib.Core.Path.{_≡_, _∙_}

@@ -12,7 +12,7 @@ use Rattle.tables.specs.Rows.{rows}
 use Rattle.tables.specs.Tables.{cellWidth}
 use Rattle.tables.proofs.RowsLaws.{row-fits}
 use Rattle.reading.proofs.FillLaws.{Filling, fill-start, fill-done, fill-wide, fill-next}
-use Rattle.reading.proofs.PlaceSteps.{heights-small, nodes-small, cells-small}
+use Rattle.reading.proofs.Bounds.{heights-small, nodes-small, cells-small}
 use Rattle.reading.proofs.ReadLaws.{ChannelsAt, channels-start, channels-next, channels-of, cells-got, length-cells-got}
 use Rattle.reading.proofs.filling.read_cells.Statement.{statement}
 use Rattle.reading.proofs.filling.read_cells.Tie as tie

@@ -1,19 +1,12 @@
 -- `tables::cells::is_unused_after` meets its contract: the part of the cell that is looked at is all that follows the messages.
 -- Assumes nothing.
-use Prim.Native.Nat.{ℕ, _+_, _-_, _*_}
-use native.Mathlib.Omega.{arith}
-use mathlib.Core.List.{List}
-use mathlib.Core.Path.{_≡_, ap, _∙_}
-use lib.ListN.{length, take, drop, length-drop}
-use lib.Seq.{take-all}
+use Prim.Native.Nat.{_+_, _*_}
+use mathlib.Core.Path.{ap, _∙_}
 use borrow.Author.Needs.{needs}
 use Rattle.tables.specs.Cell.{allZero}
+use Rattle.tables.proofs.RowsLaws.{rest-is}
 use Rattle.tables.proofs.cells.is_unused_after.Statement.{statement}
 use Rattle.tables.proofs.cells.is_unused_after.Tie as tie
-
--- `&xs[a..]`
-rest-is-all : (a : ℕ) (xs : List ℕ) → take (length xs - a) (drop a xs) ≡ drop a xs
-rest-is-all a xs = take-all (length xs - a) (drop a xs) (omega (arith, length-drop a xs))
 
 mul-a : tie.Need-mul-a
 mul-a c = search needs
@@ -39,7 +32,7 @@ all-zero-requires c κs = search needs
 returns : tie.Need-returns
 returns c =
     let a = c .before .before .before .args in
-    c .all-zero .ensures ∙ ap allZero (rest-is-all (1 + a .count * 8) (a .cell .now))
+    c .all-zero .ensures ∙ ap allZero (rest-is (1 + a .count * 8) (a .cell .now))
 
 pub is-unused-after-spec : {M : Type 1} → statement M
 is-unused-after-spec =

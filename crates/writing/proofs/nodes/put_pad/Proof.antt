@@ -3,7 +3,7 @@
 use mathlib.Core.Path.{ap, _∙_}
 use borrow.Author.Needs.{needs}
 use Rattle.bits.specs.Bits.{written}
-use Rattle.writing.proofs.HeaderLaws.{zero-bits}
+use Rattle.image.proofs.ImageBits.{bits-zero}
 use Rattle.writing.proofs.nodes.put_pad.Statement.{statement}
 use Rattle.writing.proofs.nodes.put_pad.Tie as tie
 
@@ -19,7 +19,7 @@ same-length c = search needs
 returns : tie.Need-returns
 returns c =
     let a = c .before .before .before .before .before .args in
-    c .before .before .put .ensures ∙ ap (written (a .buf .now) (a .at)) (zero-bits _)
+    c .before .before .put .ensures ∙ ap (written (a .buf .now) (a .at)) (bits-zero _)
 
 pub put-pad-spec : {M : Type 1} → statement M
 put-pad-spec = tie.close (tie.spec sub-put put-requires same-length returns)
