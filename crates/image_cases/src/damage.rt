@@ -9,7 +9,7 @@ fn bytes() -> [u8; 70]
     [0; 70]
 }
 
-fn row() -> [u32; 14]
+fn heights() -> [u32; 14]
     ensures { λ r. ⌜ 14 ≡ length r ⌝ }
 {
     [0; 14]
@@ -27,121 +27,136 @@ fn put_word(words: &mut [u32], i: usize, x: u32) {
     }
 }
 
-fn save(n: u32, nodes: &[u32], channels: &[u32], out: &mut [u8]) {
-    super::lines::saved(snapshot::save(n, nodes, channels, out));
+// ---- saves
+
+fn room(n: u32, nodes: &[u32], channels: &[u32], out: &mut [u8], len: usize) {
+    if len <= out.len() {
+        super::lines::saved(snapshot::save(n, nodes, channels, &mut out[..len]));
+    }
 }
 
-fn restore(image: &[u8], nodes: &mut [u32], channels: &mut [u32]) {
-    super::lines::restored(snapshot::restore(image, nodes, channels));
-}
-
-fn look(image: &[u8], row: &mut [u32]) {
-    super::lines::looked(snapshot::read_node(image, 2, 288, row));
-}
-
-// 14, 1, and 2 at the pair 2 1: a view of a node that is not in N.
-pub fn saves() {
+// A save of fresh tables of two nodes, said to be of n, with word i of the rows set to x, into so many bytes.
+fn save_with(n: u32, i: usize, x: u32, len: usize) {
     let mut nodes = super::small::nodes_of_2();
     let mut channels = super::small::channels_of_2();
     let mut out = bytes();
     network::fresh(2, &mut nodes, &mut channels);
-    save(2, &nodes, &channels, &mut out[..68]);
-    save(2, &nodes, &channels, &mut out[..69]);
-    save(3, &nodes, &channels, &mut out);
-    put_word(&mut nodes, 20, 1);
-    save(2, &nodes, &channels, &mut out);
+    put_word(&mut nodes, i, x);
+    room(n, &nodes, &channels, &mut out, len);
 }
 
-// A good image, then 10, 11 three times (version, header length, spare bits), and 11 for no nodes.
-fn headers(out: &mut [u8], nodes: &mut [u32], channels: &mut [u32])
-    requires { ⌜ length (now out) ≡ 70 ⌝ }
-{
-    restore(&out[..69], nodes, channels);
-    restore(&out[..3], nodes, channels);
-    put(out, 0, 32);
-    restore(&out[..69], nodes, channels);
-    put(out, 0, 16);
-    put(out, 1, 48);
-    restore(&out[..69], nodes, channels);
-    put(out, 1, 32);
-    put(out, 3, 1);
-    restore(&out[..69], nodes, channels);
-    put(out, 3, 0);
-    put(out, 2, 0);
-    restore(&out[..69], nodes, channels);
-    put(out, 2, 16);
+// 69 bytes and 70 are room enough, 68 are 14; 1 comes before 2 (node 2's view of 1, who is not in N), and 2 before 14.
+pub fn saves() {
+    save_with(2, 0, 0, 69);
+    save_with(2, 0, 0, 70);
+    save_with(2, 0, 0, 68);
+    save_with(2, 20, 1, 68);
+    save_with(3, 20, 1, 68);
 }
 
-// 12: cut off in a node's record and in the counts, one byte left over, a message past the end.
-fn ends(out: &mut [u8], nodes: &mut [u32], channels: &mut [u32])
-    requires { ⌜ length (now out) ≡ 70 ⌝ }
-{
-    restore(&out[..67], nodes, channels);
-    restore(&out[..68], nodes, channels);
-    restore(&out[..70], nodes, channels);
-    put(out, 68, 16);
-    restore(&out[..69], nodes, channels);
+// ---- restores
+
+fn restored(image: &[u8], len: usize, nodes: &mut [u32], channels: &mut [u32]) {
+    if len <= image.len() {
+        super::lines::restored(snapshot::restore(&image[..len], nodes, channels));
+    }
 }
 
-// 2 with the pair of a count above 8: before a later end, but not before an earlier one; 1 comes before both.
-fn counts(out: &mut [u8], nodes: &mut [u32], channels: &mut [u32])
-    requires { ⌜ length (now out) ≡ 70 ⌝ }
-{
-    put(out, 68, 9);
-    restore(&out[..69], nodes, channels);
-    put(out, 68, 145);
-    restore(&out[..69], nodes, channels);
-    put(out, 68, 25);
-    restore(&out[..69], nodes, channels);
-    restore(&out[..69], channels, nodes);
-    put(out, 68, 0);
+// The first bytes of the fresh image of two nodes, with byte i set to x, restored into tables of two nodes.
+fn restore_with(i: usize, x: u8, len: usize) {
+    let mut nodes = super::small::nodes_of_2();
+    let mut channels = super::small::channels_of_2();
+    let mut out = bytes();
+    network::fresh(2, &mut nodes, &mut channels);
+    snapshot::save(2, &nodes, &channels, &mut out);
+    put(&mut out, i, x);
+    restored(&out, len, &mut nodes, &mut channels);
 }
 
-// 2 for contents: node 1 in its own set N, node 2 with another leader's number; a byte left over comes before it.
-fn contents(out: &mut [u8], nodes: &mut [u32], channels: &mut [u32])
-    requires { ⌜ length (now out) ≡ 70 ⌝ }
-{
-    put(out, 9, 1);
-    restore(&out[..69], nodes, channels);
-    restore(&out[..70], nodes, channels);
-    put(out, 9, 0);
-    put(out, 67, 226);
-    restore(&out[..69], nodes, channels);
+// The same, into rows of one node.
+fn restore_misfit(i: usize, x: u8, len: usize) {
+    let mut few = super::small::nodes_of_1();
+    let mut nodes = super::small::nodes_of_2();
+    let mut channels = super::small::channels_of_2();
+    let mut out = bytes();
+    network::fresh(2, &mut nodes, &mut channels);
+    snapshot::save(2, &nodes, &channels, &mut out);
+    put(&mut out, i, x);
+    restored(&out, len, &mut few, &mut channels);
+}
+
+// The image as it is; 10; 11 for version, header length, n = 0, n = 17 and spare bits.
+fn headers() {
+    restore_with(0, 16, 69);
+    restore_with(0, 16, 3);
+    restore_with(0, 32, 69);
+    restore_with(1, 48, 69);
+    restore_with(2, 0, 69);
+    restore_with(2, 136, 69);
+    restore_with(3, 1, 69);
+}
+
+// 12: cut off in a node's record, cut off in the counts, a byte left over, a message past the end.
+fn ends() {
+    restore_with(0, 16, 67);
+    restore_with(0, 16, 68);
+    restore_with(0, 16, 70);
+    restore_with(68, 16, 69);
+}
+
+// A count of 9: 2 with its pair, before a later end, but not before an earlier one. 1 comes before the walk.
+fn counts() {
+    restore_with(68, 9, 69);
+    restore_with(68, 144, 69);
+    restore_with(68, 145, 69);
+    restore_with(68, 25, 69);
+    restore_with(68, 9, 70);
+    restore_misfit(68, 9, 69);
+    restore_misfit(0, 16, 67);
+}
+
+// Contents: node 1 in its own set N, node 2 with the number of node 0; a byte left over comes before them.
+fn contents() {
+    restore_with(9, 1, 69);
+    restore_with(9, 1, 70);
+    restore_with(67, 64, 69);
 }
 
 pub fn restores() {
+    headers();
+    ends();
+    counts();
+    contents();
+}
+
+// ---- looks at node 2, whose record starts at bit 288
+
+fn looked(image: &[u8], len: usize, row: &mut [u32], wide: usize) {
+    if len <= image.len() {
+        if wide <= row.len() {
+            super::lines::looked(snapshot::read_node(&image[..len], 2, 288, &mut row[..wide]));
+        }
+    }
+}
+
+fn look_with(i: usize, x: u8, len: usize, wide: usize) {
     let mut nodes = super::small::nodes_of_2();
     let mut channels = super::small::channels_of_2();
     let mut out = bytes();
-    super::small::fresh(2, &mut nodes, &mut channels, &mut out);
-    headers(&mut out, &mut nodes, &mut channels);
-    ends(&mut out, &mut nodes, &mut channels);
-    counts(&mut out, &mut nodes, &mut channels);
-    contents(&mut out, &mut nodes, &mut channels);
-    save(2, &nodes, &channels, &mut out);
-    restore(&out[..69], &mut nodes, &mut channels);
+    let mut row = heights();
+    network::fresh(2, &mut nodes, &mut channels);
+    put_word(&mut nodes, 17, 258);
+    snapshot::save(2, &nodes, &channels, &mut out);
+    put(&mut out, i, x);
+    looked(&out, len, &mut row, wide);
 }
 
-// A look at node 2: accepted, then 10, 11, 1, 12, 2.
-fn looked(out: &mut [u8], row: &mut [u32])
-    requires { ⌜ (length (now out) ≡ 70) × (length (now row) ≡ 14) ⌝ }
-{
-    look(&out[..69], row);
-    look(&out[..3], row);
-    put(out, 0, 32);
-    look(&out[..69], row);
-    put(out, 0, 16);
-    look(&out[..69], &mut row[..13]);
-    look(out, row);
-    put(out, 68, 144);
-    look(&out[..69], row);
-}
-
+// Clock 258 and an empty N; then 10, 11, 1, 12, 2.
 pub fn looks() {
-    let mut nodes = super::small::nodes_of_2();
-    let mut channels = super::small::channels_of_2();
-    let mut out = bytes();
-    let mut heights = row();
-    super::small::fresh(2, &mut nodes, &mut channels, &mut out);
-    looked(&mut out, &mut heights);
+    look_with(0, 16, 69, 14);
+    look_with(0, 16, 3, 14);
+    look_with(0, 32, 69, 14);
+    look_with(0, 16, 69, 13);
+    look_with(0, 16, 70, 14);
+    look_with(68, 144, 69, 14);
 }

@@ -2,7 +2,7 @@
 ghost use mathlib.Core.Path.{_≡_};
 ghost use lib.ListN.{length};
 
-fn nodes_of_1() -> [u32; 10]
+pub fn nodes_of_1() -> [u32; 10]
     ensures { λ r. ⌜ 10 ≡ length r ⌝ }
 {
     [0; 10]
@@ -51,7 +51,7 @@ fn bytes() -> [u8; 234]
 }
 
 // A fresh network of n nodes is saved.
-pub fn fresh(n: u32, nodes: &mut [u32], channels: &mut [u32], out: &mut [u8]) {
+fn fresh(n: u32, nodes: &mut [u32], channels: &mut [u32], out: &mut [u8]) {
     network::fresh(n, nodes, channels);
     super::lines::saved(snapshot::save(n, nodes, channels, out));
 }
@@ -72,21 +72,22 @@ pub fn two() {
     fresh(2, &mut nodes, &mut channels, &mut out);
 }
 
-fn look(image: &[u8], k: u32, place: u64, row: &mut [u32]) {
-    super::lines::looked(snapshot::read_node(image, k, place, row));
+fn look(image: &[u8], k: u32, place: u64) {
+    let mut row = row_of_4();
+    super::lines::looked(snapshot::read_node(image, k, place, &mut row));
 }
 
 // Node 3 starts at bit 928: 927, 929, the starts of nodes 2 and 4, and 928 + 2^32 give 13. Nodes 0 and 5 give 3.
-fn places(image: &[u8], row: &mut [u32]) {
-    look(image, 3, 928, row);
-    look(image, 3, 927, row);
-    look(image, 3, 929, row);
-    look(image, 3, 480, row);
-    look(image, 3, 1376, row);
-    look(image, 3, 4294968224, row);
-    look(image, 4, 1376, row);
-    look(image, 0, 928, row);
-    look(image, 5, 1824, row);
+fn places(image: &[u8]) {
+    look(image, 3, 928);
+    look(image, 3, 927);
+    look(image, 3, 929);
+    look(image, 3, 480);
+    look(image, 3, 1376);
+    look(image, 3, 4294968224);
+    look(image, 4, 1376);
+    look(image, 0, 928);
+    look(image, 5, 1824);
 }
 
 // 234 bytes.
@@ -94,7 +95,6 @@ pub fn four() {
     let mut nodes = nodes_of_4();
     let mut channels = channels_of_4();
     let mut out = bytes();
-    let mut row = row_of_4();
     fresh(4, &mut nodes, &mut channels, &mut out);
-    places(&out, &mut row);
+    places(&out);
 }
