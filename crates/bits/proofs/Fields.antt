@@ -1,14 +1,14 @@
 -- Laws of fields end to end, over every list of widths.
 -- Assumes nothing.
-use Prim.Native.Nat.{ℕ, zero, suc, _+_, _-_, _*_, _/_, _%_, _^_, _≤_, _<_, min}
-use native.Mathlib.Nat.{add-assoc, add-zero, zero-add, mod-eq-of-lt}
+use Prim.Native.Nat.{ℕ, suc, _+_, _*_, _^_, _≤_, _<_}
+use native.Mathlib.Nat.{add-zero, mod-eq-of-lt}
 use native.Mathlib.Numerals.{add-one}
 use native.Mathlib.Omega.{arith}
 use mathlib.Core.Path.{_≡_, refl, sym, ap, ap₂, _∙_}
 use mathlib.Core.List.{List, [], _∷_, _++_, append-assoc, append-nil}
-use lib.ListN.{length, take, drop, getD, set, length-append, length-take, length-drop, length-set, take-append-drop}
-use lib.Seq.{take-at, drop-at, take-suc, drop-cons, drop-drop, take-add, take-all, take-length, set-at, take-append-le}
-use Rattle.bits.specs.Bits.{bits, number, unpacked, packed, over, field, written, total, spread, gathered}
+use lib.ListN.{length, take, drop, getD, set, length-append, length-take, length-drop, take-append-drop}
+use lib.Seq.{take-at, drop-at, take-suc, drop-cons, drop-drop, take-add, set-at}
+use Rattle.bits.specs.Bits.{bits, number, unpacked, field, written, total, spread, gathered}
 use Rattle.bits.proofs.Numbers.{Below, below-nil, below-append, below-bits, below-take, below-drop, length-bits, number-bits, bits-number}
 use Rattle.bits.proofs.Bytes.{below-unpacked, length-unpacked, written-tail, written-own, written-written}
 

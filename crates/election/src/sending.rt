@@ -58,7 +58,8 @@ pub fn clear_channel(kind: Kind, n: u32, u: u32, v: u32, channels: &mut [u32])
 
 // One message from u to w.
 fn send(n: u32, u: u32, w: u32, h: Height, t: Time, channels: &mut [u32])
-    requires { ⌜ (n ≤ 16) × Node n u × Node n w × (length (now channels) ≡ n * n * cellWidth) × (count (channelOf n u w (now channels)) < 8) × Negated (h .pair .nlts .0) ⌝ }
+    requires { ⌜ (n ≤ 16) × Node n u × Node n w × (length (now channels) ≡ n * n * cellWidth)
+        × (count (channelOf n u w (now channels)) < 8) × Negated (h .pair .nlts .0) ⌝ }
     ensures { λ _. ⌜ now (channels .exit) ≡ putChannel n u w (appended (channelOf n u w (now (channels .entry))) h (t .0)) (now (channels .entry)) ⌝ }
 {
     let a = tables::rows::channel_start(n, u, w);

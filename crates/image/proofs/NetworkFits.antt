@@ -1,15 +1,14 @@
 -- The records of a network within the ranges of document 01 fit their fields, with depths of 16 bits.
 -- Assumes at most 16 nodes.
-use Prim.Native.Nat.{ℕ, zero, suc, _+_, _-_, _*_, _%_, _^_, _≤_, _<_}
+use Prim.Native.Nat.{ℕ, suc, _^_, _≤_, _<_}
 use native.Mathlib.Nat.{mod-lt, lt-of-lt-of-le}
 use native.Mathlib.Omega.{arith}
-use mathlib.Core.Bool.{Bool, true, false}
+use mathlib.Core.Bool.{Bool}
 use mathlib.Core.List.{List, [], _∷_, map}
-use mathlib.Core.Logic.{_⊎_, inl, inr}
-use mathlib.Core.Path.{_≡_, refl, sym}
+use mathlib.Core.Logic.{inl, inr}
+use mathlib.Core.Path.{refl}
 use borrow.Author.Tests.{ltb-false}
 use lib.IntN.{ℤ, pos, negsuc, natAbs}
-use lib.ListN.{length}
 use lib.Pow.{pow-mono}
 use Rattle.bits.proofs.Fields.{Fitting}
 use Rattle.height.specs.Height.{zeroHeight}
@@ -21,12 +20,11 @@ use Rattle.nodeset.proofs.Members.{setOf-lt}
 use Rattle.protocol.specs.Component.{Node}
 use Rattle.protocol.specs.Network.{Message, Network}
 use Rattle.protocol.proofs.Ranges.{DeltaFits, HeightFits}
-use Rattle.protocol.proofs.Soundness.{AllFit, fcons, fnil, Fits, MessageFits}
+use Rattle.protocol.proofs.Soundness.{AllFit, fcons, Fits, MessageFits}
 use Rattle.protocol.proofs.TestsLaws.{Choice, yes!, no!, choice, SameOrNot, equal?}
 use Rattle.tables.specs.Cell.{messageWords}
 use Rattle.tables.proofs.Back.{message-length}
-use Rattle.image.specs.Records.{Records, recordsOf}
-use Rattle.image.specs.Widths.{widthsOf}
+use Rattle.image.specs.Records.{recordsOf}
 use Rattle.image.proofs.ChannelLaws.{AllSound, none, more}
 use Rattle.image.proofs.ReadBack.{Fit}
 use Rattle.image.proofs.RecordLaws.{Holds, Sound}

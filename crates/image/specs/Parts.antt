@@ -1,17 +1,15 @@
 -- A row's and a cell's words as an image's bits, and back: what the functions of this crate put and get.
 -- Rows and cells of a network's tables have the bits of its records (proofs/PartLaws.antt).
-use Prim.Native.Nat.{ℕ, zero, suc, _+_, _-_, _*_, _^_, _≤_, _<_}
-use mathlib.Core.List.{List, [], _∷_, _++_}
-use mathlib.Core.Path.{_≡_}
+use Prim.Native.Nat.{ℕ, _+_, _-_, _*_, _^_, _≤_, _<_}
+use mathlib.Core.List.{List, _∷_, _++_}
 use lib.ListN.{length, drop}
-use Rattle.bits.specs.Bits.{bits, unpacked}
+use Rattle.bits.specs.Bits.{bits}
 use Rattle.tables.specs.Cell.{count}
 use Rattle.tables.specs.Row.{clockIn, neighborsIn, formingIn}
 use Rattle.tables.specs.Rows.{rows, rowAt}
-use Rattle.tables.specs.Tables.{width, cellWidth}
 use Rattle.image.specs.Places.{fieldIn, heightFrom, channelFrom}
 use Rattle.image.specs.Records.{cellOf}
-use Rattle.image.specs.Widths.{recordBits, heightWidth, messageWidth, nodeWidth}
+use Rattle.image.specs.Widths.{recordBits}
 
 -- ---- the bits of words
 

@@ -31,7 +31,8 @@ fn put_messages(buf: &mut [u8], at: usize, depth: u8, c: usize, words: &[u32])
 // A cell's count and messages go to a bit place; the place behind them.
 pub fn put_cell(buf: &mut [u8], at: usize, depth: u8, cell: &[u32]) -> usize
     requires { ⌜ Depth depth × (length (now cell) ≡ cellWidth) × (count (now cell) ≤ 8) × Inside (now buf) at (4 + count (now cell) * messageWidth depth) ⌝ }
-    ensures { λ r. ⌜ (now (buf .exit) ≡ written (now (buf .entry)) at (cellBits depth (now (cell .entry)))) × (r ≡ at + 4 + count (now (cell .entry)) * messageWidth depth) ⌝ }
+    ensures { λ r. ⌜ (now (buf .exit) ≡ written (now (buf .entry)) at (cellBits depth (now (cell .entry))))
+        × (r ≡ at + 4 + count (now (cell .entry)) * messageWidth depth) ⌝ }
 {
     let c = cell[0] as usize;
     bits::put(buf, at, 4, cell[0]);
@@ -59,8 +60,10 @@ fn get_messages(bytes: &[u8], at: usize, depth: u8, c: usize, words: &mut [u32])
 
 // The cell of the channel's record at a bit place; the place behind it.
 pub fn get_cell(bytes: &[u8], at: usize, depth: u8, cell: &mut [u32]) -> usize
-    requires { ⌜ Depth depth × (length (now cell) ≡ cellWidth) × (fieldIn (unpacked (now bytes)) at 4 ≤ 8) × Inside (now bytes) at (4 + fieldIn (unpacked (now bytes)) at 4 * messageWidth depth) ⌝ }
-    ensures { λ r. ⌜ (now (cell .exit) ≡ cellFrom depth (unpacked (now (bytes .entry))) at) × (r ≡ at + 4 + fieldIn (unpacked (now (bytes .entry))) at 4 * messageWidth depth) ⌝ }
+    requires { ⌜ Depth depth × (length (now cell) ≡ cellWidth) × (fieldIn (unpacked (now bytes)) at 4 ≤ 8)
+        × Inside (now bytes) at (4 + fieldIn (unpacked (now bytes)) at 4 * messageWidth depth) ⌝ }
+    ensures { λ r. ⌜ (now (cell .exit) ≡ cellFrom depth (unpacked (now (bytes .entry))) at)
+        × (r ≡ at + 4 + fieldIn (unpacked (now (bytes .entry))) at 4 * messageWidth depth) ⌝ }
 {
     let count = bits::get(bytes, at, 4);
     let c = count as usize;

@@ -1,9 +1,8 @@
 -- All checks of an image behind its header, in document 01's order: the walk (2 or 12), left bytes and pad (12), contents (2).
 -- Contents are those of the tables that the image's records make: the first fault, u ascending, then v ascending.
-use Prim.Native.Nat.{ℕ, _+_, _*_, _≤_, _<_, _^_}
+use Prim.Native.Nat.{ℕ, _≤_, _<_, _^_}
 use mathlib.Core.Bool.{cond}
 use mathlib.Core.List.{List}
-use mathlib.Core.Path.{_≡_}
 use lib.ListN.{length}
 use Rattle.image.specs.Places.{fieldIn, channelPlace, imageEnd, tablesIn}
 use Rattle.network.specs.Check.{SaidCheck, checked, firstFault}

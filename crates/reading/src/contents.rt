@@ -37,8 +37,10 @@ fn fault_in_row(
     row: &[u32],
     cell: &mut [u32],
 ) -> Walk
-    requires { ⌜ Depth depth × (n ≤ 16) × Node n u × (length (now row) ≡ width n) × (length (now cell) ≡ cellWidth) × ChannelsIn depth n (unpacked (now image)) u at ⌝ }
-    ensures { λ r. ⌜ Searched (faultInRow (rowHolds depth n (unpacked (now (image .entry))) (now (row .entry)) at) u 1 n) (channelsNext depth n (unpacked (now (image .entry))) u at) r ⌝ }
+    requires { ⌜ Depth depth × (n ≤ 16) × Node n u × (length (now row) ≡ width n)
+        × (length (now cell) ≡ cellWidth) × ChannelsIn depth n (unpacked (now image)) u at ⌝ }
+    ensures { λ r. ⌜ Searched (faultInRow (rowHolds depth n (unpacked (now (image .entry))) (now (row .entry)) at) u 1 n)
+        (channelsNext depth n (unpacked (now (image .entry))) u at) r ⌝ }
 {
     let mut place = at;
     let mut v: u32 = 0;
@@ -61,7 +63,8 @@ fn first_fault(
     row: &mut [u32],
     cell: &mut [u32],
 ) -> Examined
-    requires { ⌜ Depth depth × (n ≤ 16) × (h < 4096) × (length (now row) ≡ width n) × (length (now cell) ≡ cellWidth) × Walkable h depth n (unpacked (now image)) ⌝ }
+    requires { ⌜ Depth depth × (n ≤ 16) × (h < 4096) × (length (now row) ≡ width n)
+        × (length (now cell) ≡ cellWidth) × Walkable h depth n (unpacked (now image)) ⌝ }
     ensures { λ r. ⌜ saidExamined r ≡ firstFault n (tablesIn h depth n (unpacked (now (image .entry)))) ⌝ }
 {
     let k = n as usize;

@@ -30,7 +30,8 @@ pub fn read_rows(image: &[u8], h: usize, depth: u8, n: u32, nodes: &mut [u32])
 // The cell of channel u to v, which starts at a bit place; the place behind it.
 pub fn read_cell(image: &[u8], at: usize, depth: u8, u: u32, v: u32, cell: &mut [u32]) -> usize
     requires { ⌜ Depth depth × (length (now cell) ≡ cellWidth) × ChannelIn depth (unpacked (now image)) u v at ⌝ }
-    ensures { λ r. ⌜ (now (cell .exit) ≡ cellIn depth (unpacked (now (image .entry))) u v at) × (r ≡ channelNext depth (unpacked (now (image .entry))) u v at) ⌝ }
+    ensures { λ r. ⌜ (now (cell .exit) ≡ cellIn depth (unpacked (now (image .entry))) u v at)
+        × (r ≡ channelNext depth (unpacked (now (image .entry))) u v at) ⌝ }
 {
     if u == v {
         tables::cells::clear(cell);
@@ -42,7 +43,8 @@ pub fn read_cell(image: &[u8], at: usize, depth: u8, u: u32, v: u32, cell: &mut 
 // The cells of the channels from u, which start at a bit place; the place behind them.
 fn read_cells_from(image: &[u8], at: usize, depth: u8, n: u32, u: u32, cells: &mut [u32]) -> usize
     requires { ⌜ Depth depth × (n ≤ 16) × (length (now cells) ≡ n * cellWidth) × ChannelsIn depth n (unpacked (now image)) u at ⌝ }
-    ensures { λ r. ⌜ (now (cells .exit) ≡ rows n (cellBehind depth (unpacked (now (image .entry))) u at)) × (r ≡ channelsNext depth n (unpacked (now (image .entry))) u at) ⌝ }
+    ensures { λ r. ⌜ (now (cells .exit) ≡ rows n (cellBehind depth (unpacked (now (image .entry))) u at))
+        × (r ≡ channelsNext depth n (unpacked (now (image .entry))) u at) ⌝ }
 {
     let mut place = at;
     let mut v: u32 = 0;

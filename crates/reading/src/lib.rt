@@ -26,7 +26,7 @@ pub enum Header {
     Wrong,
 }
 
-// Where a walk is, or why it stopped: a count above 8 at a pair, or the end of the image.
+// Where a walk is, or why it stopped: at a pair (a count above 8, or contents that break a rule), or at the end of the image.
 pub enum Walk {
     At(usize),
     Over(u32, u32),

@@ -1,19 +1,18 @@
 -- Demand 3, whole: one statement about a whole list of calls from the fresh network of n nodes (document 01, "Lists of calls").
 -- Calls are events, saves and restores with any numbers; Images.antt says what they leave, refused ones among them. Assumes 1 ≤ n ≤ 16.
-use Prim.Native.Nat.{ℕ, _+_, _-_, _≤_}
+use Prim.Native.Nat.{ℕ, _≤_}
 use native.Mathlib.Omega.{arith}
-use mathlib.Core.Bool.{true}
 use mathlib.Core.List.{List, [], _∷_, _++_}
 use mathlib.Core.Path.{_≡_, refl, sym, ap, _∙_}
 use lib.ListN.{length}
 use Rattle.election.specs.RunOn.{EventCall, stateAfter, saidByMeaning}
 use Rattle.image.specs.Image.{image}
 use Rattle.protocol.specs.Component.{Node, Quiescent, OneLeader}
-use Rattle.protocol.specs.History.{History, State, upIn, sentSince, receivedSince, waiting}
+use Rattle.protocol.specs.History.{History, State, upIn, waiting}
 use Rattle.protocol.specs.Network.{Network, upTo, own}
-use Rattle.protocol.specs.Run.{Call, restore, Reading, got, refused, RunState, Earlier, savedAt, lastSave, historyAt, startOfRun}
-use Rattle.protocol.specs.Run.{Fair, fairSaved, fairRefused, AllFair, fairNil, fairCons}
-use Rattle.protocol.proofs.Runs.{Promise, Sane, run-promise, run-sane, read-saved}
+use Rattle.protocol.specs.Run.{Call, restore, got, refused, RunState, savedAt, lastSave, startOfRun}
+use Rattle.protocol.specs.Run.{Fair, fairSaved, fairRefused, fairNil, fairCons}
+use Rattle.protocol.proofs.Runs.{Sane, run-promise, run-sane, read-saved}
 use Rattle.runs.specs.Images.{readImage, after, then, Allowed, AllowedFrom, performed}
 use Rattle.runs.proofs.ImageBack.{read-back}
 

@@ -1,14 +1,14 @@
 -- Demand 3 read off the lent tables alone, for crates above: after every allowed list of calls from `fresh`,
 -- quiet, links, heights and leader are those of the network that the tables hold. Assumes 1 to 16 nodes.
 use Prim.Native.Nat.{ℕ, _≤_}
-use mathlib.Core.Bool.{Bool, true}
+use mathlib.Core.Bool.{true}
 use mathlib.Core.List.{List}
-use mathlib.Core.Path.{_≡_, sym, ap, subst, fun-ext}
+use mathlib.Core.Path.{_≡_, sym, subst, fun-ext}
 use Rattle.image.specs.Image.{image}
 use Rattle.protocol.specs.Component.{Node, OneLeader, quiet}
 use Rattle.protocol.specs.History.{State, upIn}
 use Rattle.protocol.specs.Network.{Network, fresh, upTo, own}
-use Rattle.protocol.specs.Run.{Call, startOfRun}
+use Rattle.protocol.specs.Run.{Call}
 use Rattle.protocol.proofs.Good.{Good}
 use Rattle.protocol.proofs.Leaders.{quiet-leader, quiet-quiescent}
 use Rattle.protocol.proofs.Runs.{run-sane}

@@ -2,39 +2,40 @@
 -- Assumes 1 to 16 nodes. Tables and networks meet in `tablesOf` and `load` alone.
 use Prim.Native.Nat.{ℕ, _≤_}
 use native.Mathlib.Omega.{arith}
-use mathlib.Core.Bool.{Bool, true, false, cond, _&&_}
-use mathlib.Core.List.{List, [], _∷_}
+use mathlib.Core.Bool.{cond, _&&_}
+use mathlib.Core.List.{List, _∷_}
 use mathlib.Core.Logic.{_⊎_, inl, inr}
 use mathlib.Core.Path.{_≡_, refl, sym, ap, ap₂, _∙_}
 use borrow.Author.Tests.{eq-eqb, ne-eqb}
 use lib.Dec.{eqb, leb}
 use lib.ListN.{length, replicate}
-use Rattle.election.specs.RunOn.{EventCall, called, saidTo}
-use Rattle.election.specs.StepOn.{Outcome, stepOn}
+use Rattle.election.specs.RunOn.{called}
+use Rattle.election.specs.StepOn.{Outcome}
 use Rattle.election.proofs.RunLaws.{not-sized, one-call}
 use Rattle.image.specs.Image.{image}
-use Rattle.network.specs.Check.{SaidCheck, checked, checkOn}
+use Rattle.network.specs.Check.{checked, checkOn}
 use Rattle.network.specs.Fresh.{Filled}
 use Rattle.network.proofs.CheckLaws.{is-sized, check-sizes}
 use Rattle.network.proofs.SoundNetworks.{sound-check}
 use Rattle.protocol.specs.Network.{Network, fresh}
 use Rattle.protocol.specs.History.{State}
-use Rattle.protocol.specs.Run.{Call, event, save, restore, Reading, got, refused, RunState, savedAt, lastSave, startOfRun}
-use Rattle.protocol.specs.Run.{Fair, fairEvent, fairSave, fairSaved, fairRefused, AllFair, fairNil, fairCons}
+use Rattle.protocol.specs.Run.{Call, event, save, restore, got, refused, RunState, savedAt, lastSave, startOfRun}
+use Rattle.protocol.specs.Run.{Fair, fairEvent, fairSave, fairSaved, fairRefused, fairNil, fairCons}
 use Rattle.protocol.specs.Step.{Event}
-use Rattle.protocol.proofs.Good.{Good, good-started}
+use Rattle.protocol.proofs.Good.{good-started}
 use Rattle.protocol.proofs.Holding.{sound-holds}
 use Rattle.protocol.proofs.Restrict.{restrict-is}
-use Rattle.protocol.proofs.Runs.{Sane, Found, found, act-sane, knil}
+use Rattle.protocol.proofs.Runs.{Sane, found, act-sane, knil}
 use Rattle.protocol.proofs.TestsLaws.{Choice, yes!, no!, choice, equal?}
 use Rattle.snapshot.specs.Restore.{restoreOn}
-use Rattle.snapshot.specs.Save.{SaidSave, saidSaved, put, saveChecked, saveOn}
-use Rattle.snapshot.proofs.RestoreAny.{restore-said, restore-kept}
+use Rattle.snapshot.specs.Save.{saidSaved, put, saveChecked, saveOn}
+use Rattle.snapshot.proofs.RefusedLaws.{restore-kept}
+use Rattle.snapshot.proofs.RestoreAny.{restore-said}
 use Rattle.snapshot.proofs.RestoreSaved.{restore-image}
 use Rattle.tables.specs.Load.{load, tablesOf}
 use Rattle.tables.specs.Tables.{Tables, Sized}
 use Rattle.tables.proofs.Back.{storable, load-back, tables-sized}
-use Rattle.runs.specs.Images.{readImage, readingOf, performed, after, then, Allowed, AllowedFrom}
+use Rattle.runs.specs.Images.{readImage, performed, after, then, Allowed, AllowedFrom}
 use Rattle.runs.specs.OnTables.{Reply, toEvent, toSave, toRestore, tablesAfter, reply, tablesAfterAll, replies, replyTo, repliesTo}
 use Rattle.runs.proofs.Demand3.{put-back}
 use Rattle.runs.proofs.ImageBack.{read-back}
@@ -84,7 +85,10 @@ module _ (n : ℕ) (low : 1 ≤ n) (few : n ≤ 16) (w : RunState) (sane : Sane 
 
   one-save : (m room : ℕ) → One (save m room)
   unfolding reply replyTo tablesAfter saveOn saveChecked
-  one-save m room = record { reply-is = said (equal? m n); after-is = sym (ap (λ (s : State). tablesOf n (s .network)) (same (choice (eqb m n && leb (length (image n p)) room)))) }
+  one-save m room = record {
+    reply-is = said (equal? m n);
+    after-is = sym (ap (λ (s : State). tablesOf n (s .network)) (same (choice (eqb m n && leb (length (image n p)) room))));
+  }
     where
       same : Choice (eqb m n && leb (length (image n p)) room) → then n w (save m room) .now ≡ w .now
       same (yes! q) = rw q

@@ -7,7 +7,7 @@ use lib.Dec.{eqb}
 use Rattle.image.specs.Image.{image}
 use Rattle.network.specs.Fresh.{Filled}
 use Rattle.protocol.specs.Network.{fresh}
-use Rattle.protocol.specs.Run.{Call, Reading, got, refused, RunState, Fair, AllFair, perform, act, startOfRun}
+use Rattle.protocol.specs.Run.{Call, Reading, got, refused, RunState, AllFair, perform, act, startOfRun}
 use Rattle.snapshot.specs.Restore.{restoreOn}
 use Rattle.tables.specs.Load.{load, tablesOf}
 

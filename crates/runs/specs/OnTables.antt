@@ -5,12 +5,12 @@ use mathlib.Core.Bool.{cond}
 use mathlib.Core.List.{List, [], _∷_}
 use lib.Dec.{eqb}
 use lib.ListN.{replicate}
-use Rattle.election.specs.RunOn.{EventCall, saidTo}
+use Rattle.election.specs.RunOn.{saidTo}
 use Rattle.election.specs.StepOn.{stepOn}
 use Rattle.image.specs.Image.{image}
 use Rattle.network.specs.Check.{SaidCheck}
 use Rattle.protocol.specs.Answer.{Said}
-use Rattle.protocol.specs.Network.{Network, fresh}
+use Rattle.protocol.specs.Network.{fresh}
 use Rattle.protocol.specs.Run.{Call, event, save, restore, RunState}
 use Rattle.snapshot.specs.Restore.{restoreOn}
 use Rattle.snapshot.specs.Save.{SaidSave, saidSaved, put, saveOn}

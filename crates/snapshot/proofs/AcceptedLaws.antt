@@ -1,17 +1,16 @@
 -- What an accepted restore shows of its bytes: header, walk, end and contents, and the tables afterwards.
 -- Assumes nothing.
-use Prim.Native.Nat.{ℕ, _+_, _-_, _*_, _≤_, _<_}
+use Prim.Native.Nat.{ℕ, _+_, _≤_, _<_}
 use native.Mathlib.Omega.{arith}
-use mathlib.Core.Bool.{Bool, true, false, cond, _&&_}
+use mathlib.Core.Bool.{true, cond, _&&_}
 use mathlib.Core.List.{List}
-use mathlib.Core.Path.{_≡_, refl, sym, ap, _∙_}
+use mathlib.Core.Path.{_≡_, refl}
 use borrow.Author.Tests.{eqb-true, eqb-false, leb-true, ltb-true, ltb-false}
 use lib.Dec.{eqb, leb, ltb}
 use lib.ListN.{length, drop}
 use Rattle.bits.specs.Bits.{field, number, unpacked}
 use Rattle.image.specs.Places.{imageEnd, tablesIn}
-use Rattle.network.specs.Check.{SaidCheck, checked, firstFault}
-use Rattle.network.specs.Fresh.{Filled, filled}
+use Rattle.network.specs.Check.{checked, firstFault}
 use Rattle.protocol.proofs.TestsLaws.{Choice, yes!, no!, choice, and-left, and-right}
 use Rattle.reading.specs.Examine.{Walkable, afterWalk, examined}
 use Rattle.reading.specs.Header.{fieldsOf, headerHolds, headerOf}

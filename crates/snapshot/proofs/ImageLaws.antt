@@ -1,18 +1,16 @@
 -- What a reader finds in the image of a sound network: the header, the walk to the end, the pad, and the network's tables.
 -- Assumes 1 to 16 nodes, and a network that breaks no rule and holds nothing beyond node n.
-use Prim.Native.Nat.{ℕ, suc, _+_, _-_, _*_, _/_, _≤_, _<_}
+use Prim.Native.Nat.{ℕ, suc, _+_, _-_, _≤_, _<_}
 use native.Mathlib.Omega.{arith}
-use mathlib.Core.Bool.{Bool, true, false, cond, _&&_}
-use mathlib.Core.List.{List}
-use mathlib.Core.Path.{_≡_, refl, sym, ap, ap₂, _∙_}
-use borrow.Author.Tests.{eq-eqb, le-leb, lt-ltb, le-ltb}
-use lib.Dec.{eqb, leb, ltb}
+use mathlib.Core.Bool.{Bool, true, false, cond}
+use mathlib.Core.Path.{_≡_, refl, ap, _∙_}
+use borrow.Author.Tests.{le-leb, lt-ltb, le-ltb}
 use lib.ListN.{length, drop}
 use Rattle.bits.specs.Bits.{field, number, unpacked}
 use Rattle.bits.proofs.Bytes.{length-unpacked}
-use Rattle.image.specs.Image.{networkBits, imageOf, image}
+use Rattle.image.specs.Image.{imageOf, image}
 use Rattle.image.specs.Places.{fieldIn, channelFrom, channelPlace, imageEnd, recordsIn, tablesIn}
-use Rattle.image.specs.Records.{Records, recordsOf, tablesFrom}
+use Rattle.image.specs.Records.{recordsOf}
 use Rattle.image.proofs.ChannelLaws.{length-messages-of}
 use Rattle.image.proofs.ImageBits.{length-image, length-whole, number-zeros}
 use Rattle.image.proofs.NetworkFits.{network-fit}
@@ -29,13 +27,12 @@ use Rattle.protocol.proofs.SoundStep.{sound-fits}
 use Rattle.reading.specs.Examine.{afterWalk, examined}
 use Rattle.reading.specs.Header.{fieldsOf, headerHolds, headerOf}
 use Rattle.reading.specs.Walk.{walk, endsAt}
-use Rattle.reading.specs.declared.Fields.{Fields}
 use Rattle.reading.specs.declared.Header.the-variants.{Good}
 use Rattle.reading.specs.declared.Walk.the-variants.{At}
 use Rattle.reading.proofs.WalkLaws.{walk-goes}
 use Rattle.tables.specs.Load.{tablesOf}
-use Rattle.tables.specs.Tables.{Tables, sized}
-use Rattle.tables.proofs.Back.{Storable, storable}
+use Rattle.tables.specs.Tables.{sized}
+use Rattle.tables.proofs.Back.{storable}
 
 module _ (n : ℕ) (low : 1 ≤ n) (few : n ≤ 16) (p : Network) (holds : sound n p ≡ true) (inside : restrict n p ≡ p) where
   fits : Fits n p

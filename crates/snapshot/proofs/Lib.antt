@@ -4,6 +4,7 @@ pub mod RestoreSaved
 pub mod AcceptedLaws
 pub mod SameImage
 pub mod RestoreAny
+pub mod RefusedLaws
 pub mod NodePlaces
 pub mod SaveLaws
 pub mod LookLaws

@@ -4,25 +4,24 @@ use Prim.Native.Nat.{ℕ, suc, _+_, _-_, _*_, _≤_, _<_}
 use native.Mathlib.Nat.{mul-le-mul-right, suc-mul}
 use native.Mathlib.Decide.{decLt}
 use native.Mathlib.Omega.{arith}
-use mathlib.Core.Bool.{Bool, true, false, cond, _&&_}
 use mathlib.Core.List.{List}
-use mathlib.Core.Path.{_≡_, refl, sym, ap, _∙_}
-use borrow.Author.Tests.{eqb-true, eqb-false, eq-eqb, ne-eqb, leb-true, le-leb}
+use mathlib.Core.Path.{_≡_, refl, sym, _∙_}
+use borrow.Author.Tests.{eqb-true, eqb-false, eq-eqb, ne-eqb, leb-true}
 use lib.Dec.{eqb, leb}
 use lib.ListN.{length}
 use Rattle.bits.specs.Bits.{field, unpacked}
 use Rattle.image.specs.Places.{nodePlace}
 use Rattle.image.specs.Widths.{heightWidth, nodeWidth}
-use Rattle.network.specs.Check.{SaidCheck, checked}
+use Rattle.network.specs.Check.{checked}
 use Rattle.protocol.specs.Component.{Node}
 use Rattle.protocol.specs.Network.{isNode}
 use Rattle.protocol.proofs.TestsLaws.{Choice, yes!, no!, choice, and-left, and-right}
 use Rattle.reading.specs.Examine.{examined}
 use Rattle.reading.specs.Header.{fieldsOf, headerOf}
 use Rattle.reading.specs.declared.Header.{Header}
-use Rattle.reading.specs.declared.Header.the-variants.{Good, Short, Wrong}
+use Rattle.reading.specs.declared.Header.the-variants.{Good}
 use Rattle.tables.proofs.TablesLaws.{is-node}
-use Rattle.snapshot.specs.ReadNode.{Looked, looked, refusedNode, nodeAt, nodePlaced, nodeExamined, nodeHeaded, readNodeOn}
+use Rattle.snapshot.specs.ReadNode.{looked, refusedNode, nodeAt, nodePlaced, nodeExamined, nodeHeaded, readNodeOn}
 use Rattle.snapshot.proofs.AcceptedLaws.{HeaderGood, HeaderCase, isShort, isWrong, isGood, header-case}
 
 -- ---- where node k of n starts

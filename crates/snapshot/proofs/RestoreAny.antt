@@ -1,15 +1,13 @@
--- What a restore says depends on the sizes of the lent tables alone, and a refused one leaves them as they were.
+-- What a restore says depends on its bytes and the sizes of the lent tables alone, not on what these hold.
 -- Assumes nothing.
-use Prim.Native.Nat.{ℕ, _*_}
-use mathlib.Core.Bool.{Bool, true, false, cond, _&&_}
+use Prim.Native.Nat.{ℕ}
+use mathlib.Core.Bool.{cond}
 use mathlib.Core.List.{List}
 use mathlib.Core.Path.{_≡_, refl}
-use borrow.Author.Tests.{eqb-true, eqb-false}
-use lib.Dec.{eqb, leb}
-use lib.ListN.{length}
+use lib.Dec.{eqb}
 use Rattle.bits.specs.Bits.{unpacked}
-use Rattle.network.specs.Check.{SaidCheck, checked}
-use Rattle.network.specs.Fresh.{Filled, filled}
+use Rattle.network.specs.Check.{checked}
+use Rattle.network.specs.Fresh.{filled}
 use Rattle.protocol.proofs.TestsLaws.{Choice, yes!, no!, choice}
 use Rattle.reading.specs.Examine.{examined}
 use Rattle.reading.specs.Header.{headerOf}
@@ -45,27 +43,3 @@ module _ (n : ℕ) (t u : Tables) (a : Sized n t) (b : Sized n u) (l : List ℕ)
 pub restore-said : (n : ℕ) (t u : Tables) → Sized n t → Sized n u → (xs : List ℕ) → restoreOn xs t .said ≡ restoreOn xs u .said
 unfolding restoreOn
 restore-said n t u a b xs = said-headed n t u a b (unpacked xs) (headerOf xs)
-
--- ---- a refused restore
-
-module _ (t : Tables) (l : List ℕ) where
-  kept-of : (m : ℕ) → (restoreOf m l t .said .number ≡ 0 → ⊥) → restoreOf m l t .after ≡ t
-  unfolding restoreOf restoreExamined
-  kept-of m = go (choice (sized m t)) (choice (eqb (examined 32 16 m l .number) 0))
-    where
-      go : Choice (sized m t) → Choice (eqb (examined 32 16 m l .number) 0)
-          → (cond (sized m t) (restoreExamined m l t (examined 32 16 m l)) (filled (checked 1 0 0) t) .said .number ≡ 0 → ⊥)
-          → cond (sized m t) (restoreExamined m l t (examined 32 16 m l)) (filled (checked 1 0 0) t) .after ≡ t
-      go (no! e) f z = rw e
-      go (yes! e) (no! f) z = rw (e, f)
-      go (yes! e) (yes! f) z = absurd (z (rw (e, f) (eqb-true (examined 32 16 m l .number) 0 f)))
-
-  kept-headed : (h : Header) → (restoreHeaded l t h .said .number ≡ 0 → ⊥) → restoreHeaded l t h .after ≡ t
-  unfolding restoreHeaded
-  kept-headed Short z = refl
-  kept-headed Wrong z = refl
-  kept-headed (Good f) z = kept-of (f .n) z
-
-pub restore-kept : (xs : List ℕ) (t : Tables) → (restoreOn xs t .said .number ≡ 0 → ⊥) → restoreOn xs t .after ≡ t
-unfolding restoreOn
-restore-kept xs t z = kept-headed t (unpacked xs) (headerOf xs) z

@@ -12,7 +12,6 @@ use Rattle.height.proofs.OrderLaws.{clash}
 use Rattle.image.specs.Places.{tablesIn}
 use Rattle.network.specs.Check.{SaidCheck, checked}
 use Rattle.network.specs.Fresh.{filled}
-use Rattle.network.proofs.CheckLaws.{sized-is}
 use Rattle.reading.specs.Examine.{Walkable, saidExamined, examined}
 use Rattle.reading.specs.Header.{fieldsOf, headerOf}
 use Rattle.reading.specs.declared.Examined.{Examined}
@@ -21,9 +20,9 @@ use Rattle.reading.specs.declared.Fields.{Fields}
 use Rattle.reading.specs.declared.Header.{Header}
 use Rattle.reading.specs.declared.Header.the-variants.{Good, Short, Wrong}
 use Rattle.reading.proofs.Header as declared
-use Rattle.tables.specs.Tables.{Tables, Sized, sized}
+use Rattle.tables.specs.Tables.{Tables, sized}
 use Rattle.snapshot.specs.Restore.{saidHeader, restoreExamined, restoreOf, restoreHeaded, restoreOn}
-use Rattle.snapshot.proofs.AcceptedLaws.{HeaderGood, HeaderCase, isShort, isWrong, isGood, header-case, examined-good}
+use Rattle.snapshot.proofs.AcceptedLaws.{HeaderCase, isShort, isWrong, isGood, header-case, examined-good}
 
 -- ---- the header
 

@@ -3,7 +3,6 @@
 use Prim.Native.Nat.{ℕ, _≤_}
 use mathlib.Core.Bool.{true}
 use mathlib.Core.Path.{_≡_, ap, _∙_}
-use Rattle.bits.specs.Bits.{unpacked}
 use Rattle.image.specs.Image.{image}
 use Rattle.network.specs.Check.{checked, checkOn}
 use Rattle.network.specs.Fresh.{filled}

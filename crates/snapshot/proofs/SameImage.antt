@@ -12,7 +12,6 @@ use Rattle.protocol.specs.Network.{Network, restrict}
 use Rattle.protocol.proofs.SoundStep.{sound-fits}
 use Rattle.reading.specs.Header.{fieldsOf}
 use Rattle.tables.specs.Load.{load, tablesOf}
-use Rattle.tables.specs.Tables.{Tables}
 use Rattle.tables.proofs.Back.{storable, load-back}
 use Rattle.snapshot.proofs.ImageLaws.{image-fields, image-tables}
 

@@ -1,23 +1,20 @@
 -- Saving what was restored gives the bytes back: the tables that an accepted image fills pass the check, and their image is it again.
 -- Assumes that the bytes are bytes (below 256).
-use Prim.Native.Nat.{ℕ, suc, _+_, _-_, _*_, _≤_, _<_}
+use Prim.Native.Nat.{ℕ, suc}
 use native.Mathlib.Omega.{arith}
-use mathlib.Core.Bool.{Bool, true, false, cond}
 use mathlib.Core.List.{List, [], _∷_, map}
-use mathlib.Core.Path.{_≡_, refl, sym, ap, _∙_}
-use lib.Dec.{eqb}
-use lib.ListN.{length}
+use mathlib.Core.Path.{_≡_, refl, sym, _∙_}
 use Rattle.bits.specs.Bits.{field, unpacked}
 use Rattle.bits.proofs.Numbers.{Below}
 use Rattle.bits.proofs.Bytes.{below-unpacked, length-unpacked}
-use Rattle.image.specs.Image.{imageOf, image}
+use Rattle.image.specs.Image.{image}
 use Rattle.image.specs.Places.{fieldIn, recordsIn, tablesIn}
-use Rattle.image.specs.Records.{Records, recordsOf, tablesFrom}
+use Rattle.image.specs.Records.{recordsOf}
 use Rattle.image.proofs.ImageBits.{same-image}
 use Rattle.image.proofs.ReadBack.{Agree}
 use Rattle.image.proofs.TablesRecords.{Eights, enil, econs, Shaped, length-words, network-tables, tables-tell, rows-length-is, cells-length}
 use Rattle.image.proofs.Whole.{Accepted, image-written}
-use Rattle.network.specs.Check.{checked, checkOn}
+use Rattle.network.specs.Check.{checkOn}
 use Rattle.network.proofs.CheckLaws.{is-sized, check-places}
 use Rattle.network.proofs.SoundLoads.{sound-loads, load-inside}
 use Rattle.network.proofs.SoundTables.{Words, sound-fits as tables-fit}
@@ -26,13 +23,13 @@ use Rattle.protocol.proofs.Soundness.{Fits, diagonal}
 use Rattle.protocol.proofs.SoundStep.{sound-fits}
 use Rattle.tables.specs.Cell.{messageWords}
 use Rattle.tables.specs.Fit.{TablesFit}
-use Rattle.tables.specs.Load.{load, tablesOf}
-use Rattle.tables.specs.Tables.{Tables, Sized, sized}
+use Rattle.tables.specs.Load.{load}
+use Rattle.tables.specs.Tables.{Tables, Sized}
 use Rattle.tables.proofs.Back.{words-length, message-length}
 use Rattle.tables.proofs.TablesLaws.{tables-back}
 use Rattle.snapshot.specs.Restore.{restoreOn}
-use Rattle.snapshot.specs.Save.{SaveOutcome, put, saveChecked, saveOn}
-use Rattle.snapshot.proofs.AcceptedLaws.{HeaderGood, ExaminedGood, RestoreGood, restore-good}
+use Rattle.snapshot.specs.Save.{put, saveChecked, saveOn}
+use Rattle.snapshot.proofs.AcceptedLaws.{HeaderGood, ExaminedGood, restore-good}
 use Rattle.reading.proofs.ShapeLaws.{records-shaped, records-words}
 
 eights : (ms : List Message) → Eights (map messageWords ms)

@@ -43,8 +43,10 @@ pub fn cells_length(depth: u8, n: u32, channels: &[u32]) -> usize
 
 // The channels from u go to a bit place; the place behind them.
 fn put_cells_from(buf: &mut [u8], at: usize, depth: u8, n: u32, u: u32, channels: &[u32]) -> usize
-    requires { ⌜ Depth depth × (n ≤ 16) × Node n u × (length (now channels) ≡ n * n * cellWidth) × Counts n (now channels) × Inside (now buf) at (length (cellsFromBits depth n (now channels) u)) ⌝ }
-    ensures { λ r. ⌜ (now (buf .exit) ≡ written (now (buf .entry)) at (cellsFromBits depth n (now (channels .entry)) u)) × (r ≡ at + length (cellsFromBits depth n (now (channels .entry)) u)) ⌝ }
+    requires { ⌜ Depth depth × (n ≤ 16) × Node n u × (length (now channels) ≡ n * n * cellWidth)
+        × Counts n (now channels) × Inside (now buf) at (length (cellsFromBits depth n (now channels) u)) ⌝ }
+    ensures { λ r. ⌜ (now (buf .exit) ≡ written (now (buf .entry)) at (cellsFromBits depth n (now (channels .entry)) u))
+        × (r ≡ at + length (cellsFromBits depth n (now (channels .entry)) u)) ⌝ }
 {
     let mut place = at;
     let mut v = 1;
@@ -64,8 +66,10 @@ fn put_cells_from(buf: &mut [u8], at: usize, depth: u8, n: u32, u: u32, channels
 
 // All channels go to a bit place; the place behind them.
 pub fn put_cells(buf: &mut [u8], at: usize, depth: u8, n: u32, channels: &[u32]) -> usize
-    requires { ⌜ Depth depth × (n ≤ 16) × (length (now channels) ≡ n * n * cellWidth) × Counts n (now channels) × Inside (now buf) at (length (cellsBits depth n (now channels))) ⌝ }
-    ensures { λ r. ⌜ (now (buf .exit) ≡ written (now (buf .entry)) at (cellsBits depth n (now (channels .entry)))) × (r ≡ at + length (cellsBits depth n (now (channels .entry)))) ⌝ }
+    requires { ⌜ Depth depth × (n ≤ 16) × (length (now channels) ≡ n * n * cellWidth) × Counts n (now channels)
+        × Inside (now buf) at (length (cellsBits depth n (now channels))) ⌝ }
+    ensures { λ r. ⌜ (now (buf .exit) ≡ written (now (buf .entry)) at (cellsBits depth n (now (channels .entry))))
+        × (r ≡ at + length (cellsBits depth n (now (channels .entry)))) ⌝ }
 {
     let mut place = at;
     let mut u = 1;

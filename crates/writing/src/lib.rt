@@ -25,7 +25,8 @@ pub fn image_length(n: u32, nodes: &[u32], channels: &[u32]) -> usize
 // The image of tables goes to the front of the bytes; those behind it stay.
 pub fn write(n: u32, nodes: &[u32], channels: &[u32], out: &mut [u8])
     requires { ⌜ TablesFit n (given nodes channels) × (length (image n (load n (given nodes channels))) ≤ length (now out)) ⌝ }
-    ensures { λ _. ⌜ now (out .exit) ≡ image n (load n (before nodes channels)) ++ drop (length (image n (load n (before nodes channels)))) (now (out .entry)) ⌝ }
+    ensures { λ _. ⌜ now (out .exit) ≡ image n (load n (before nodes channels))
+        ++ drop (length (image n (load n (before nodes channels)))) (now (out .entry)) ⌝ }
 {
     let k = n as usize;
     nodes::put_header(out, n);

@@ -8,8 +8,6 @@ use Rattle.bits.proofs.Turns.{one-shl}
 use borrow.Author.Needs.{needs}
 use Rattle.bits.proofs.digits.Statement.{statement}
 use Rattle.bits.proofs.digits.Tie as tie
-use Rattle.bits.proofs.digits.Reads as reads
-use Rattle.bits.proofs.digits.Lts as lts
 
 -- src/lib.rt:46:11
 cast-result : tie.Need-cast-result

@@ -1,17 +1,12 @@
 -- `bits::get` meets its contract. The invariant: the value is the field of the bits read so far.
 -- The measure is how many bits are left. Assumes nothing.
-use Prim.Native.Nat.{ℕ, _+_, _-_, _*_, _/_, _%_, _^_, _≤_, _<_}
+use Prim.Native.Nat.{_+_, _-_, _*_, _/_, _%_, _^_, _≤_}
 use native.Mathlib.Omega.{arith}
-use mathlib.Core.Path.{_≡_, refl, sym, ap, ap₂, _∙_}
-use lib.ListN.{length, getD}
+use mathlib.Core.Path.{_≡_, sym, ap, _∙_}
 use Rattle.bits.specs.Bits.{field}
 use Rattle.bits.proofs.Turns.{get-turn, field-fits, field-none}
 use Rattle.bits.proofs.get.Statement.{statement}
 use Rattle.bits.proofs.get.Tie as tie
-use Rattle.bits.proofs.get.Reads as reads
-use Rattle.bits.proofs.get.Lts as lts
-use Rattle.bits.proofs.digits.Reads as digits-reads
-use Rattle.bits.proofs.run.Reads as run-reads
 
 abbrev Inv-loop : tie.InvT-loop
 Inv-loop bytes at width v₀ done₀ v done = (done ≤ width) × (v ≡ field bytes at done)

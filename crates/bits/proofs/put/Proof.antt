@@ -1,8 +1,8 @@
 -- `bits::put` meets its contract. The invariant: the bits written so far stand over the bits at entry.
 -- The measure is how many bits are left. Assumes nothing.
-use Prim.Native.Nat.{ℕ, _+_, _-_, _*_, _/_, _%_, _^_, _≤_, _<_}
+use Prim.Native.Nat.{ℕ, _+_, _-_, _/_, _%_, _^_, _≤_}
 use native.Mathlib.Omega.{arith}
-use mathlib.Core.Path.{_≡_, refl, sym, ap, ap₂, _∙_}
+use mathlib.Core.Path.{_≡_, refl, ap, _∙_}
 use native.Mathlib.Nat.{mod-lt}
 use lib.Pow.{pow-pos}
 use lib.ListN.{length, getD, length-set}
@@ -11,11 +11,6 @@ use Rattle.bits.proofs.Numbers.{Below, below-set}
 use Rattle.bits.proofs.Turns.{put-turn, put-none, put-all}
 use Rattle.bits.proofs.put.Statement.{statement}
 use Rattle.bits.proofs.put.Tie as tie
-use Rattle.bits.proofs.put.Reads as reads
-use Rattle.bits.proofs.put.Lts as lts
-use Rattle.bits.proofs.digits.Reads as digits-reads
-use Rattle.bits.proofs.run.Reads as run-reads
-use Rattle.bits.proofs.spliced.Reads as spliced-reads
 
 abbrev Inv-loop : tie.InvT-loop
 Inv-loop buf₀ at width value done₀ buf done =

@@ -1,21 +1,16 @@
 -- `bits::put_fields` meets its contract. The invariant: the first k values are written, each at its width, and the place is behind them.
 -- The measure is how many are left. Assumes nothing.
-use Prim.Native.Nat.{ℕ, _+_, _-_, _*_, _/_, _%_, _^_, _≤_, _<_}
+use Prim.Native.Nat.{ℕ, _+_, _-_, _≤_, _<_}
 use native.Mathlib.Omega.{arith}
 use mathlib.Core.Path.{_≡_, refl, sym, ap, ap₂, _∙_}
-use mathlib.Core.List.{List, _++_, append-nil}
-use borrow.Author.Needs.{needs}
-use lib.ListN.{length, getD, take, drop, length-set, drop-of-length-le}
+use mathlib.Core.List.{List}
+use lib.ListN.{length, getD, take}
 use lib.Seq.{take-all}
-use Rattle.bits.specs.Bits.{bits, unpacked, over, written, spread, gathered, total, field}
+use Rattle.bits.specs.Bits.{bits, written, spread, total}
 use Rattle.bits.proofs.Bytes.{written-none, length-written}
-use Rattle.bits.proofs.Fields.{total-in, total-more, put-more, get-more}
+use Rattle.bits.proofs.Fields.{total-in, total-more, put-more}
 use Rattle.bits.proofs.put_fields.Statement.{statement}
 use Rattle.bits.proofs.put_fields.Tie as tie
-use Rattle.bits.proofs.put_fields.Reads as reads
-use Rattle.bits.proofs.put_fields.Lts as lts
-use Rattle.bits.proofs.put.Reads as put-reads
-use Rattle.bits.proofs.wide.Reads as wide-reads
 
 abbrev Inv-loop : tie.InvT-loop
 Inv-loop buf₀ at widths values place₀ k₀ buf place k =

@@ -1,6 +1,6 @@
 -- `bits::spliced` meets its contract: nothing is shifted out of the sum of high part, new bits and low part.
 -- Assumes nothing.
-use Prim.Native.Nat.{ℕ, _-_, _/_, _%_, _^_}
+use Prim.Native.Nat.{_-_}
 use native.Mathlib.Nat.{lt-trans}
 use native.Mathlib.Omega.{arith}
 use mathlib.Core.Path.{ap, _∙_}
@@ -11,8 +11,6 @@ use Rattle.bits.proofs.Turns.{one-shl, splice, splice-fits, splice-byte
 use borrow.Author.Needs.{needs}
 use Rattle.bits.proofs.spliced.Statement.{statement}
 use Rattle.bits.proofs.spliced.Tie as tie
-use Rattle.bits.proofs.spliced.Reads as reads
-use Rattle.bits.proofs.spliced.Lts as lts
 
 -- src/lib.rt:54:13
 sub-r : tie.Need-sub-r

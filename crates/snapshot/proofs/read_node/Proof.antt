@@ -7,11 +7,6 @@ use Rattle.snapshot.proofs.RestoreLaws.{good-fields}
 use borrow.Author.Needs.{needs}
 use Rattle.snapshot.proofs.read_node.Statement.{statement}
 use Rattle.snapshot.proofs.read_node.Tie as tie
-use Rattle.snapshot.proofs.read_node.Reads as reads
-use Rattle.snapshot.proofs.read_node.Lts as lts
-use Rattle.reading.proofs.decode.Reads as decode-reads
-use Rattle.snapshot.proofs.looking.headed.Reads as headed-reads
-use Rattle.snapshot.proofs.looking.of_header.Reads as of-header-reads
 
 -- src/lib.rt:77:9
 decode-requires : tie.Need-decode-requires
@@ -44,7 +39,9 @@ same-length c = search needs
 
 -- src/lib.rt:74:1
 returns-2 : tie.Need-returns-2
-returns-2 c = c .before .before .headed .ensures ∙ node-headed _ _ _ _ (c .before .before .before .before .before .before .before .decode .ensures) (c .before .before .before .before .before .h .given .1)
+returns-2 c =
+    let h = c .before .before .before .before .before in
+    c .before .before .headed .ensures ∙ node-headed _ _ _ _ (h .before .before .decode .ensures) (h .h .given .1)
 
 pub read-node-spec : {M : Type 1} → statement M
 read-node-spec =

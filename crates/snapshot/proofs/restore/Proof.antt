@@ -8,11 +8,6 @@ use Rattle.snapshot.proofs.RestoreLaws.{headed-refused, headed-good, go
 use borrow.Author.Needs.{needs}
 use Rattle.snapshot.proofs.restore.Statement.{statement}
 use Rattle.snapshot.proofs.restore.Tie as tie
-use Rattle.snapshot.proofs.restore.Reads as reads
-use Rattle.snapshot.proofs.restore.Lts as lts
-use Rattle.reading.proofs.decode.Reads as decode-reads
-use Rattle.snapshot.proofs.restoring.headed.Reads as headed-reads
-use Rattle.snapshot.proofs.restoring.of_header.Reads as of-header-reads
 
 -- src/lib.rt:66:9
 decode-requires : tie.Need-decode-requires
@@ -49,7 +44,9 @@ same-length-2 c = search needs
 
 -- src/lib.rt:63:1
 returns-2 : tie.Need-returns-2
-returns-2 c = c .before .before .before .before .headed .ensures ∙ headed-good _ _ (c .before .before .before .before .before .before .before .before .before .before .decode .ensures) (c .before .before .before .before .before .before .before .before .h .given .1)
+returns-2 c =
+    let h = c .before .before .before .before .before .before .before .before in
+    c .before .before .before .before .headed .ensures ∙ headed-good _ _ (h .before .before .decode .ensures) (h .h .given .1)
 
 pub restore-spec : {M : Type 1} → statement M
 restore-spec =

@@ -4,10 +4,6 @@ use borrow.Author.Needs.{needs}
 use Rattle.snapshot.proofs.SaveLaws.{passes, save-sizes, save-fault, save-sound}
 use Rattle.snapshot.proofs.save.Statement.{statement}
 use Rattle.snapshot.proofs.save.Tie as tie
-use Rattle.snapshot.proofs.save.Reads as reads
-use Rattle.snapshot.proofs.save.Lts as lts
-use Rattle.network.proofs.check.Reads as check-reads
-use Rattle.snapshot.proofs.saving.checked.Reads as checked-reads
 
 -- src/lib.rt:53:11
 check-requires : tie.Need-check-requires

@@ -1,15 +1,11 @@
 -- `snapshot::looking::headed` meets its contract: 1 for the row, 2 or 12 by the checks, or the node at its place.
 -- Assumes nothing.
-use mathlib.Core.Path.{sym, ap, _∙_}
+use mathlib.Core.Path.{_∙_}
 use Rattle.snapshot.proofs.LookLaws.{node-sizes, node-fault, node-end, node-sound}
 use Rattle.snapshot.proofs.RestoreLaws.{sound-walks}
 use borrow.Author.Needs.{needs}
 use Rattle.snapshot.proofs.looking.headed.Statement.{statement}
 use Rattle.snapshot.proofs.looking.headed.Tie as tie
-use Rattle.snapshot.proofs.looking.headed.Reads as reads
-use Rattle.snapshot.proofs.looking.headed.Lts as lts
-use Rattle.reading.proofs.examine.Reads as examine-reads
-use Rattle.snapshot.proofs.looking.placed.Reads as placed-reads
 
 -- src/looking.rt:41:22
 cast-if1 : tie.Need-cast-if1
@@ -35,7 +31,8 @@ enum-told c = search needs
 placed-requires : tie.Need-placed-requires
 placed-requires c κs =
     let s = c .before .before .before .before .before .before .before .before in
-    (s .pre .0, s .pre .2, c .before .before .before .before .if1 .left, sound-walks _ _ (c .before .before .before .examine .ensures) (s .pre .2) (c .before .enum-told .given .1))
+    let wide = c .before .before .before .before .if1 .left in
+    (s .pre .0, s .pre .2, wide, sound-walks _ _ (c .before .before .before .examine .ensures) (s .pre .2) (c .before .enum-told .given .1))
 
 -- src/looking.rt:46:34
 enum-known-u : tie.Need-enum-known-u
@@ -53,7 +50,9 @@ same-length c = search needs
 returns-2 : tie.Need-returns-2
 returns-2 c =
     c .before .before .placed .ensures
-    ∙ node-sound _ _ _ _ _ (c .before .before .before .before .before .before .before .if1 .left) (c .before .before .before .before .before .before .examine .ensures) (c .before .before .before .before .enum-told .given .1)
+    ∙ (let told = c .before .before .before .before in
+    let e = told .before .before in
+    node-sound _ _ _ _ _ (e .before .if1 .left) (e .examine .ensures) (told .enum-told .given .1))
 
 -- src/looking.rt:31:1
 returns-3 : tie.Need-returns-3

@@ -6,8 +6,6 @@ use Rattle.snapshot.specs.Restore.{saidHeader}
 use borrow.Author.Needs.{needs}
 use Rattle.snapshot.proofs.looking.of_header.Statement.{statement}
 use Rattle.snapshot.proofs.looking.of_header.Tie as tie
-use Rattle.snapshot.proofs.looking.of_header.Reads as reads
-use Rattle.snapshot.proofs.looking.of_header.Lts as lts
 
 -- src/looking.rt:24:37
 enum-told : tie.Need-enum-told

@@ -7,10 +7,6 @@ use Rattle.snapshot.proofs.LookLaws.{not-node, node-is, not-place, at-p
 use borrow.Author.Needs.{needs}
 use Rattle.snapshot.proofs.looking.placed.Statement.{statement}
 use Rattle.snapshot.proofs.looking.placed.Tie as tie
-use Rattle.snapshot.proofs.looking.placed.Reads as reads
-use Rattle.snapshot.proofs.looking.placed.Lts as lts
-use Rattle.snapshot.proofs.looking.record_at.Reads as record-at-reads
-use Rattle.snapshot.proofs.looking.start.Reads as start-reads
 
 -- src/looking.rt:67:9
 returns : tie.Need-returns
@@ -44,7 +40,8 @@ returns-3 : tie.Need-returns-3
 returns-3 c =
     let s = c .before .before .before .before .before .before .before .before .before .before in
     let node = node-is _ (s .args .k) (c .before .before .before .before .before .before .if1 .left) in
-    c .before .before .record-at .ensures ∙ at-place _ _ _ _ _ node _ (c .before .before .before .before .before .start .ensures .0) (c .before .before .before .before .if2 .left)
+    let at = c .before .before .before .before .before .start .ensures .0 in
+    c .before .before .record-at .ensures ∙ at-place _ _ _ _ _ node _ at (c .before .before .before .before .if2 .left)
 
 pub placed-spec : {M : Type 1} → statement M
 placed-spec =

@@ -1,7 +1,6 @@
 -- `snapshot::looking::record_at` meets its contract. Assumes nothing.
 use Prim.Native.Nat.{_+_}
 use native.Mathlib.Omega.{arith}
-use mathlib.Core.Path.{refl}
 use Rattle.bits.proofs.Bytes.{field-lt}
 use Rattle.bits.specs.Bits.{field}
 use Rattle.image.specs.Places.{fieldIn}
@@ -10,10 +9,6 @@ use Rattle.snapshot.proofs.LookLaws.{head-inside}
 use borrow.Author.Needs.{needs}
 use Rattle.snapshot.proofs.looking.record_at.Statement.{statement}
 use Rattle.snapshot.proofs.looking.record_at.Tie as tie
-use Rattle.snapshot.proofs.looking.record_at.Reads as reads
-use Rattle.snapshot.proofs.looking.record_at.Lts as lts
-use Rattle.bits.proofs.get.Reads as get-reads
-use Rattle.image.proofs.rows.get_heights.Reads as get-heights-reads
 
 -- src/looking.rt:45:5
 get-heights-requires : tie.Need-get-heights-requires

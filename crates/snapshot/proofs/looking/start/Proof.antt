@@ -7,8 +7,6 @@ use Rattle.snapshot.proofs.LookLaws.{before-small}
 use borrow.Author.Needs.{needs}
 use Rattle.snapshot.proofs.looking.start.Statement.{statement}
 use Rattle.snapshot.proofs.looking.start.Tie as tie
-use Rattle.snapshot.proofs.looking.start.Reads as reads
-use Rattle.snapshot.proofs.looking.start.Lts as lts
 
 -- src/looking.rt:35:13
 cast-n : tie.Need-cast-n

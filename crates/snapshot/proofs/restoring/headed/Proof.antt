@@ -1,6 +1,6 @@
 -- `snapshot::restoring::headed` meets its contract: 1, 2 or 12, or the tables of the image.
 -- Assumes nothing.
-use mathlib.Core.Path.{sym, ap, _∙_}
+use mathlib.Core.Path.{ap, _∙_}
 use Rattle.network.proofs.CheckLaws.{sized-is}
 use Rattle.network.specs.Check.{checked}
 use Rattle.network.specs.Fresh.{filled}
@@ -8,11 +8,6 @@ use Rattle.snapshot.proofs.RestoreLaws.{not-true, not-false, sound-walk
 use borrow.Author.Needs.{needs}
 use Rattle.snapshot.proofs.restoring.headed.Statement.{statement}
 use Rattle.snapshot.proofs.restoring.headed.Tie as tie
-use Rattle.snapshot.proofs.restoring.headed.Reads as reads
-use Rattle.snapshot.proofs.restoring.headed.Lts as lts
-use Rattle.network.proofs.is_sized.Reads as is-sized-reads
-use Rattle.reading.proofs.examine.Reads as examine-reads
-use Rattle.reading.proofs.read_tables.Reads as read-tables-reads
 
 -- src/restoring.rt:26:9
 is-sized-requires : tie.Need-is-sized-requires
@@ -43,7 +38,8 @@ read-tables-requires : tie.Need-read-tables-requires
 read-tables-requires c κs =
     let e = c .before .before .before .before in
     let fit = not-false _ (e .before .before .is-sized .ensures) (e .before .if1 .left) in
-    (sized-is _ _ fit, sound-walks _ _ (e .examine .ensures) (c .before .before .before .before .before .before .before .before .before .before .before .before .pre .1) (c .before .before .enum-told .given .1))
+    let few = c .before .before .before .before .before .before .before .before .before .before .before .before .pre .1 in
+    (sized-is _ _ fit, sound-walks _ _ (e .examine .ensures) few (c .before .before .enum-told .given .1))
 
 -- src/restoring.rt:34:34
 enum-known-u : tie.Need-enum-known-u
@@ -66,7 +62,8 @@ returns-2 : tie.Need-returns-2
 returns-2 c =
     let e = c .before .before .before .before .before .before .before .before .before in
     let fit = not-false _ (e .before .before .is-sized .ensures) (e .before .if1 .left) in
-    ap (filled (checked 0 0 0)) (c .before .before .before .before .read-tables .ensures) ∙ of-done _ _ (e .examine .ensures) _ fit (c .before .before .before .before .before .before .before .enum-told .given .1)
+    ap (filled (checked 0 0 0)) (c .before .before .before .before .read-tables .ensures)
+    ∙ of-done _ _ (e .examine .ensures) _ fit (c .before .before .before .before .before .before .before .enum-told .given .1)
 
 -- src/restoring.rt:22:1
 same-length-5 : tie.Need-same-length-5

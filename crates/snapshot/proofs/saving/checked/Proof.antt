@@ -5,10 +5,6 @@ use borrow.Author.Needs.{needs}
 use Rattle.snapshot.proofs.SaveLaws.{fits, put-no-room, put-room}
 use Rattle.snapshot.proofs.saving.checked.Statement.{statement}
 use Rattle.snapshot.proofs.saving.checked.Tie as tie
-use Rattle.snapshot.proofs.saving.checked.Reads as reads
-use Rattle.snapshot.proofs.saving.checked.Lts as lts
-use Rattle.writing.proofs.image_length.Reads as image-length-reads
-use Rattle.writing.proofs.write.Reads as write-reads
 
 -- src/saving.rt:15:9
 image-length-requires : tie.Need-image-length-requires
