@@ -53,7 +53,7 @@ module _ (n : ℕ) (low : 1 ≤ n) (few : n ≤ 16) (s : State) (good : Good n s
   fits : Storable n (s .network)
   fits = storable n (s .network) (good .fits)
 
-  own-call : (e : Event) → stepOn n e (tablesOf n (s .network)) ≡ outcome (answer n (s .network) e) (tablesOf n (next n (s .network) e))
+  pub own-call : (e : Event) → stepOn n e (tablesOf n (s .network)) ≡ outcome (answer n (s .network) e) (tablesOf n (next n (s .network) e))
   unfolding stepOn stepChecked stepAt
   own-call e = rw (sound-check n (s .network) fits (sound-holds n (s .network) (good .fits)) low few, load-back n (s .network) fits)
 
