@@ -1,0 +1,9 @@
+// The bench program: reads a plot and its events from standard input, writes the listing (document 01, "The bench program").
+mod space;
+
+fn main() {
+    let mut input = space::input();
+    let got = io::read_full(0, &mut input);
+    let mut out = space::output();
+    space::list(&input, got, &mut out);
+}

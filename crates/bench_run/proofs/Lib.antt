@@ -1,0 +1,7 @@
+-- Laws of the bench listing.
+pub mod Listings
+pub mod PourLaws
+pub mod StationLaws
+pub mod LineRuns
+pub mod LinesRun
+pub mod PlotLaws

@@ -1,0 +1,53 @@
+-- One event line: the command that it names, carried out on the tables and printed.
+-- Assumes nothing.
+use Prim.Native.Nat.{ℕ, _+_, _≤_}
+use mathlib.Core.List.{List}
+use mathlib.Core.Path.{_≡_, refl, sym, ap, _∙_}
+use lib.ListN.{length}
+use Rattle.commands.specs.Commands.{commandOf}
+use Rattle.commands.specs.declared.Command.{Command}
+use Rattle.commands.specs.declared.Command.the-variants.{Up, Down, Receive, Malformed}
+use Rattle.election.specs.StepOn.{Outcome, outcome, stepOn}
+use Rattle.protocol.specs.Answer.{Said}
+use Rattle.protocol.specs.Step.{up, down, receive}
+use Rattle.tables.specs.Tables.{Tables}
+use Rattle.text.specs.Text.{poured}
+use Rattle.bench_run.specs.Listing.{eventLine, saidLine}
+use Rattle.bench_run.specs.OnTables.{commandLineOn, afterCommandOn}
+use Rattle.bench_run.proofs.PourLaws.{Poured}
+
+-- the line's text and the tables after it
+pub record Told (n : ℕ) (t : Tables) (k : ℕ) (l text : List ℕ) (after : Tables) : Type 0 where
+  pub text-is : text ≡ commandLineOn n t k (commandOf l)
+  pub after-is : after ≡ afterCommandOn n t (commandOf l)
+
+module _ (n : ℕ) (t : Tables) (k : ℕ) (l : List ℕ) {c : Command} (parsed : c ≡ commandOf l) where
+  of-command : {d : Command} {text : List ℕ} {after : Tables} → c ≡ d → text ≡ commandLineOn n t k d → after ≡ afterCommandOn n t d → Told n t k l text after
+  of-command e x y = record {
+    text-is = x ∙ ap (commandLineOn n t k) (sym e ∙ parsed);
+    after-is = y ∙ ap (afterCommandOn n t) (sym e ∙ parsed);
+  }
+
+  pub told-up : {u v : ℕ} → c ≡ Up u v → {s : Said} {after : Tables} → outcome s after ≡ stepOn n (up u v) t → Told n t k l (saidLine k s) after
+  unfolding commandLineOn afterCommandOn
+  told-up e q = of-command e (ap (λ (o : Outcome). saidLine k (o .said)) q) (ap (λ (o : Outcome). o .after) q)
+
+  pub told-down : {u v : ℕ} → c ≡ Down u v → {s : Said} {after : Tables} → outcome s after ≡ stepOn n (down u v) t → Told n t k l (saidLine k s) after
+  unfolding commandLineOn afterCommandOn
+  told-down e q = of-command e (ap (λ (o : Outcome). saidLine k (o .said)) q) (ap (λ (o : Outcome). o .after) q)
+
+  pub told-receive : {u v : ℕ} → c ≡ Receive u v → {s : Said} {after : Tables} → outcome s after ≡ stepOn n (receive u v) t → Told n t k l (saidLine k s) after
+  unfolding commandLineOn afterCommandOn
+  told-receive e q = of-command e (ap (λ (o : Outcome). saidLine k (o .said)) q) (ap (λ (o : Outcome). o .after) q)
+
+  pub told-malformed : c ≡ Malformed → Told n t k l (eventLine k 15 45 0) t
+  unfolding commandLineOn afterCommandOn
+  told-malformed e = of-command e refl refl
+
+-- the line has been poured
+pub line-done : {n : ℕ} {t : Tables} {k : ℕ} {l text : List ℕ} {after : Tables} → Told n t k l text after
+    → {out left : List ℕ} {at behind : ℕ} → Poured out at text left behind → behind ≤ at + 35
+    → (left ≡ poured out at (commandLineOn n t k (commandOf l))) × (behind ≡ at + length (commandLineOn n t k (commandOf l))) × (behind ≤ at + 35)
+    × (after ≡ afterCommandOn n t (commandOf l))
+line-done told {out} {left} {at} x near =
+    (x .bytes ∙ ap (poured out at) (told .text-is), x .place ∙ ap (λ (y : List ℕ). at + length y) (told .text-is), near, told .after-is)

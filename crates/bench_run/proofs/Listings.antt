@@ -1,0 +1,92 @@
+-- The listing of events carried out on tables is the listing of the meaning: from fresh tables of n nodes.
+-- Assumes 1 to 16 nodes.
+use Prim.Native.Nat.{ℕ, suc, _≤_}
+use native.Mathlib.Omega.{arith}
+use mathlib.Core.List.{List, [], _∷_, _++_}
+use mathlib.Core.Path.{_≡_, refl, sym, ap, ap₂, _∙_}
+use Rattle.commands.specs.Commands.{commandOf}
+use Rattle.commands.specs.declared.Command.{Command}
+use Rattle.commands.specs.declared.Command.the-variants.{Up, Down, Receive, Malformed}
+use Rattle.election.specs.StepOn.{Outcome}
+use Rattle.election.proofs.RunLaws.{own-call}
+use Rattle.protocol.specs.Component.{Node}
+use Rattle.protocol.specs.History.{State, started, advance}
+use Rattle.protocol.specs.Network.{Network, fresh}
+use Rattle.protocol.specs.Step.{up, down, receive}
+use Rattle.protocol.proofs.Good.{Good, good-started, good-advance}
+use Rattle.tables.specs.Load.{tablesOf}
+use Rattle.tables.specs.Tables.{Tables}
+use Rattle.tables.proofs.Back.{storable, load-back}
+use Rattle.tables.proofs.RowsMore.{rows-same}
+use Rattle.tables.proofs.TablesLaws.{load-clock, load-height}
+use Rattle.bench_run.specs.Listing.{saidLine, commandLine, afterCommand, eventLines, afterLines, stationLines}
+use Rattle.bench_run.specs.OnTables.{commandLineOn, afterCommandOn, eventLinesOn, afterLinesOn, stationLineOn, stationLinesOn}
+
+-- the state after a command
+stateAfter : ℕ → State → Command → State
+stateAfter n s (Up u v) = advance n s (up u v)
+stateAfter n s (Down u v) = advance n s (down u v)
+stateAfter n s (Receive u v) = advance n s (receive u v)
+stateAfter n s Malformed = s
+
+module _ (n : ℕ) (low : 1 ≤ n) (few : n ≤ 16) where
+  module _ (s : State) (good : Good n s) where
+    line-same : (k : ℕ) (c : Command) → commandLineOn n (tablesOf n (s .network)) k c ≡ commandLine n (s .network) k c
+    unfolding commandLineOn commandLine
+    line-same k (Up u v) = ap (λ (o : Outcome). saidLine k (o .said)) (own-call n low few s good (up u v))
+    line-same k (Down u v) = ap (λ (o : Outcome). saidLine k (o .said)) (own-call n low few s good (down u v))
+    line-same k (Receive u v) = ap (λ (o : Outcome). saidLine k (o .said)) (own-call n low few s good (receive u v))
+    line-same k Malformed = refl
+
+    after-same : (c : Command) → afterCommandOn n (tablesOf n (s .network)) c ≡ tablesOf n (afterCommand n (s .network) c)
+    unfolding afterCommandOn afterCommand
+    after-same (Up u v) = ap (λ (o : Outcome). o .after) (own-call n low few s good (up u v))
+    after-same (Down u v) = ap (λ (o : Outcome). o .after) (own-call n low few s good (down u v))
+    after-same (Receive u v) = ap (λ (o : Outcome). o .after) (own-call n low few s good (receive u v))
+    after-same Malformed = refl
+
+    state-network : (c : Command) → stateAfter n s c .network ≡ afterCommand n (s .network) c
+    unfolding stateAfter advance afterCommand
+    state-network (Up u v) = refl
+    state-network (Down u v) = refl
+    state-network (Receive u v) = refl
+    state-network Malformed = refl
+
+    state-good : (c : Command) → Good n (stateAfter n s c)
+    unfolding stateAfter
+    state-good (Up u v) = good-advance n s (up u v) good
+    state-good (Down u v) = good-advance n s (down u v) good
+    state-good (Receive u v) = good-advance n s (receive u v) good
+    state-good Malformed = good
+
+    stations-same : stationLinesOn n (tablesOf n (s .network)) ≡ stationLines n (s .network)
+    unfolding stationLinesOn stationLineOn stationLines
+    stations-same =
+        let back = load-back n (s .network) (storable n (s .network) (good .fits)) in
+        rows-same n _ _ (λ i l.
+        let node : Node n (suc i) = record { low = omega arith; high = l } in
+        let clock = sym (load-clock n (tablesOf n (s .network)) (suc i) node) ∙ ap (λ (p : Network). p .clock (suc i)) back in
+        let heights = sym (load-height n (tablesOf n (s .network)) (suc i) node) ∙ ap (λ (p : Network). p .height (suc i)) back in
+        rw (clock, heights))
+
+  -- after any lines
+  lines-same : (s : State) → Good n s → (k : ℕ) (ls : List (List ℕ))
+      → (eventLinesOn n (tablesOf n (s .network)) k ls ≡ eventLines n (s .network) k ls)
+      × (stationLinesOn n (afterLinesOn n (tablesOf n (s .network)) ls) ≡ stationLines n (afterLines n (s .network) ls))
+  unfolding eventLinesOn eventLines afterLinesOn afterLines
+  lines-same s good k [] = (refl, stations-same s good)
+  lines-same s good k (l ∷ ls) =
+      let c = commandOf l in
+      let more = lines-same (stateAfter n s c) (state-good s good c) (suc k) ls in
+      let net = state-network s good c in
+      let tabs = after-same s good c ∙ ap (tablesOf n) (sym net) in (
+        ap₂ (λ (x y : List ℕ). x ++ y) (line-same s good k c)
+            (ap (λ (t : Tables). eventLinesOn n t (suc k) ls) tabs ∙ more .0 ∙ ap (λ (p : Network). eventLines n p (suc k) ls) net),
+        ap (λ (t : Tables). stationLinesOn n (afterLinesOn n t ls)) tabs ∙ more .1 ∙ ap (λ (p : Network). stationLines n (afterLines n p ls)) net,
+      )
+
+  pub events-same : (ls : List (List ℕ)) → eventLinesOn n (tablesOf n fresh) 1 ls ≡ eventLines n fresh 1 ls
+  events-same ls = lines-same started (good-started n) 1 ls .0
+
+  pub stations-after : (ls : List (List ℕ)) → stationLinesOn n (afterLinesOn n (tablesOf n fresh) ls) ≡ stationLines n (afterLines n fresh ls)
+  stations-after ls = lines-same started (good-started n) 1 ls .1

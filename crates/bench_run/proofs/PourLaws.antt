@@ -1,0 +1,89 @@
+-- Texts poured one behind the other are one text.
+-- Assumes nothing.
+use Prim.Native.Nat.{ℕ, _+_, _≤_}
+use native.Mathlib.Nat.{add-assoc}
+use native.Mathlib.Omega.{arith}
+use mathlib.Core.List.{List, [], _∷_, _++_, append-assoc}
+use mathlib.Core.Path.{_≡_, sym, ap, _∙_}
+use lib.ListN.{length, length-append}
+use lib.Count.{ones}
+use Rattle.protocol.specs.Answer.{Said}
+use Rattle.text.specs.Text.{poured, decimal}
+use Rattle.text.proofs.TextLaws.{poured-append, length-decimal-le}
+use Rattle.bench_run.specs.Listing.{eventLine, saidLine, stationLine}
+
+-- what was poured from a place on, and the place behind it
+pub record Poured (out : List ℕ) (at : ℕ) (text after : List ℕ) (behind : ℕ) : Type 0 where
+  pub bytes : after ≡ poured out at text
+  pub place : behind ≡ at + length text
+
+pub both : {out after : List ℕ} {at behind : ℕ} {text : List ℕ} → after ≡ poured out at text → behind ≡ at + length text → Poured out at text after behind
+both b p = record { bytes = b; place = p }
+
+pub then : {out mid after : List ℕ} {at between behind : ℕ} {a b : List ℕ} → Poured out at a mid between → Poured mid between b after behind
+    → Poured out at (a ++ b) after behind
+then {out} {mid} {after} {at} {between} {behind} {a} {b} x y = record {
+  bytes = y .bytes ∙ (ap (λ (q : ℕ). poured mid q b) (x .place) ∙ (ap (λ (o : List ℕ). poured o (at + length a) b) (x .bytes) ∙ sym (poured-append out at a b)));
+  place = y .place ∙ (ap (λ (q : ℕ). q + length b) (x .place) ∙ (add-assoc at (length a) (length b) ∙ ap (λ (q : ℕ). at + q) (sym (length-append a b))));
+}
+
+-- a number and the byte behind it are at most eleven bytes
+pub number-le : (x e : ℕ) → length (decimal x ++ (e ∷ [])) ≤ 11
+number-le x e = omega (arith, length-append (decimal x) (e ∷ []), length-decimal-le x)
+
+-- the lines as pieces
+pub event-pieces : (k code letter sent : ℕ)
+    → (decimal k ++ (32 ∷ [])) ++ ((decimal code ++ (32 ∷ [])) ++ ((letter ∷ 32 ∷ []) ++ (decimal sent ++ (10 ∷ [])))) ≡ eventLine k code letter sent
+unfolding eventLine
+event-pieces k code letter sent =
+    append-assoc (decimal k) (32 ∷ []) _
+    ∙ ap (λ (t : List ℕ). decimal k ++ (32 ∷ t)) (append-assoc (decimal code) (32 ∷ []) ((letter ∷ 32 ∷ []) ++ (decimal sent ++ (10 ∷ []))))
+
+pub station-pieces : (u leader clock : ℕ)
+    → (decimal u ++ (32 ∷ [])) ++ ((decimal leader ++ (32 ∷ [])) ++ (decimal clock ++ (10 ∷ []))) ≡ stationLine u leader clock
+unfolding stationLine
+station-pieces u leader clock =
+    append-assoc (decimal u) (32 ∷ []) _
+    ∙ ap (λ (t : List ℕ). decimal u ++ (32 ∷ t)) (append-assoc (decimal leader) (32 ∷ []) (decimal clock ++ (10 ∷ [])))
+
+pub event-le : (k code letter sent : ℕ) → length (eventLine k code letter sent) ≤ 35
+event-le k code letter sent =
+    let a = number-le k 32 in
+    let b = number-le code 32 in
+    let d = number-le sent 10 in
+    omega (
+      arith,
+      ap length (event-pieces k code letter sent),
+      length-append (decimal k ++ (32 ∷ [])) ((decimal code ++ (32 ∷ [])) ++ ((letter ∷ 32 ∷ []) ++ (decimal sent ++ (10 ∷ [])))),
+      length-append (decimal code ++ (32 ∷ [])) ((letter ∷ 32 ∷ []) ++ (decimal sent ++ (10 ∷ []))),
+      length-append (letter ∷ 32 ∷ []) (decimal sent ++ (10 ∷ [])),
+    )
+
+pub station-le : (u leader clock : ℕ) → length (stationLine u leader clock) ≤ 33
+station-le u leader clock =
+    let a = number-le u 32 in
+    let b = number-le leader 32 in
+    let d = number-le clock 10 in
+    omega (
+      arith,
+      ap length (station-pieces u leader clock),
+      length-append (decimal u ++ (32 ∷ [])) ((decimal leader ++ (32 ∷ [])) ++ (decimal clock ++ (10 ∷ []))),
+      length-append (decimal leader ++ (32 ∷ [])) (decimal clock ++ (10 ∷ [])),
+    )
+
+-- the line of what is said
+pub said-line : (k : ℕ) (s : Said) {code letter sent : ℕ} → code ≡ s .number → letter ≡ s .rule → sent ≡ ones (s .sentTo)
+    → eventLine k code letter sent ≡ saidLine k s
+unfolding saidLine
+said-line k s a b d = rw (a, b, d)
+
+pub said-le : (k : ℕ) (s : Said) → length (saidLine k s) ≤ 35
+unfolding saidLine
+said-le k s = event-le k (s .number) (s .rule) (ones (s .sentTo))
+
+-- a text of at most m bytes, under its own name
+pub finish : {out after : List ℕ} {at behind : ℕ} {text line : List ℕ} → Poured out at text after behind → text ≡ line → (m : ℕ) → length line ≤ m
+    → (after ≡ poured out at line) × (behind ≡ at + length line) × (behind ≤ at + m)
+finish {out} {after} {at} {behind} {text} {line} x e m h =
+    let p : behind ≡ at + length line = x .place ∙ ap (λ (t : List ℕ). at + length t) e in
+    (x .bytes ∙ ap (poured out at) e, p, omega arith)

@@ -1,0 +1,69 @@
+-- `bench_run::plot::with_tables` meets its contract: fresh tables, then the four parts of the listing.
+-- Assumes nothing.
+use native.Mathlib.Omega.{arith}
+use mathlib.Core.Path.{_∙_}
+use Rattle.bench_run.proofs.PlotLaws.{made-fresh, plot-done}
+use Rattle.bench_run.proofs.PourLaws.{both}
+use borrow.Author.Needs.{needs}
+use Rattle.bench_run.proofs.plot.with_tables.Statement.{statement}
+use Rattle.bench_run.proofs.plot.with_tables.Tie as tie
+
+-- src/plot.rt:36:5
+fresh-requires : tie.Need-fresh-requires
+fresh-requires c κs = search needs
+
+-- src/plot.rt:37:9
+put-event-head-requires : tie.Need-put-event-head-requires
+put-event-head-requires c κs = search needs
+
+-- src/plot.rt:38:9
+lines-requires : tie.Need-lines-requires
+lines-requires c κs = search needs
+
+-- src/plot.rt:39:9
+put-station-head-requires : tie.Need-put-station-head-requires
+put-station-head-requires c κs = search needs
+
+-- src/plot.rt:40:5
+stations-requires : tie.Need-stations-requires
+stations-requires c κs =
+    let s = c .before .before .before .before .before .before .before .before .before .before .before .before .before .before .before .before .before .before .before .before .before .before .before .before .before .before .before .before .before .before .before in
+    let wide = c .before .before .before .before .before .before .before .before .before .before .before .nodes2 .given ∙ (c .before .before .before .before .before .before .before .before .before .before .before .before .before .before .before .before .before .before .before .before .before .before .before .nodes .given ∙ s .pre .0 .nodes) in
+    (s .pre .0 .few, wide, omega (arith, c .before .before .before .before .put-station-head .ensures .1, c .before .before .before .before .before .before .before .before .before .before .before .before .lines .ensures .2))
+
+-- src/plot.rt:24:1
+same-length : tie.Need-same-length
+same-length c = search needs
+
+-- src/plot.rt:24:1
+same-length-2 : tie.Need-same-length-2
+same-length-2 c = search needs
+
+-- src/plot.rt:24:1
+same-length-3 : tie.Need-same-length-3
+same-length-3 c = search needs
+
+-- src/plot.rt:24:1
+returns : tie.Need-returns
+returns c =
+    let s = c .before .before .before .before .before .before .before .before .before .before .before .before .before .before .before .before .before .before .before .before .before .before .before .before .before .before .before .before .before .before .before .before .before .before in
+    let start = made-fresh _ _ (s .pre .0) (c .before .before .before .before .before .before .before .before .before .before .before .before .before .before .before .before .before .before .before .before .before .before .before .before .before .before .before .fresh .ensures) in
+    let a = c .before .before .before .before .before .before .before .before .before .before .before .before .before .before .before .before .before .before .before .before .before .put-event-head .ensures in
+    let e = c .before .before .before .before .before .before .before .before .before .before .before .before .before .before .before .lines .ensures in
+    let h = c .before .before .before .before .before .before .before .put-station-head .ensures in
+    let t = c .before .before .stations .ensures in
+    plot-done _ (s .pre .0 .low) (s .pre .0 .few) _ start (both (a .0) (a .1)) (both (e .0) (e .1)) (both (h .0) (h .1)) _ _ (e .3) (both (t .0) (t .1))
+
+pub with-tables-spec : {M : Type 1} → statement M
+with-tables-spec =
+    tie.close
+    (tie.spec
+    fresh-requires
+    put-event-head-requires
+    lines-requires
+    put-station-head-requires
+    stations-requires
+    same-length
+    same-length-2
+    same-length-3
+    returns)

@@ -1,0 +1,4 @@
+-- The bench listing.
+pub mod Listing
+pub mod Run
+pub mod OnTables

@@ -1,0 +1,82 @@
+-- The bench listing: document 01, "The bench program", from the bytes of the input to the bytes of the output.
+-- Lines and commands are those of `commands`; what an event answers and leaves is the meaning of `protocol`.
+use Prim.Native.Nat.{ℕ, suc}
+use mathlib.Core.Bool.{cond}
+use mathlib.Core.List.{List, [], _∷_, _++_}
+use lib.Count.{ones}
+use lib.Dec.{eqb, leb}
+use lib.ListN.{length}
+use Rattle.commands.specs.Commands.{linesOf, commandOf, headOf}
+use Rattle.commands.specs.declared.Command.{Command}
+use Rattle.commands.specs.declared.Command.the-variants.{Up, Down, Receive, Malformed}
+use Rattle.protocol.specs.Answer.{Said}
+use Rattle.protocol.specs.Network.{Network, fresh, own}
+use Rattle.protocol.specs.Refusal.{answer, next}
+use Rattle.protocol.specs.Step.{up, down, receive}
+use Rattle.tables.specs.Rows.{rows}
+use Rattle.text.specs.Text.{decimal}
+
+-- ---- fixed lines
+
+-- "event code rule sent"
+abbrev pub eventHead : List ℕ
+eventHead = 101 ∷ 118 ∷ 101 ∷ 110 ∷ 116 ∷ 32 ∷ 99 ∷ 111 ∷ 100 ∷ 101 ∷ 32 ∷ 114 ∷ 117 ∷ 108 ∷ 101 ∷ 32 ∷ 115 ∷ 101 ∷ 110 ∷ 116 ∷ 10 ∷ []
+
+-- "station leader clock"
+abbrev pub stationHead : List ℕ
+stationHead = 115 ∷ 116 ∷ 97 ∷ 116 ∷ 105 ∷ 111 ∷ 110 ∷ 32 ∷ 108 ∷ 101 ∷ 97 ∷ 100 ∷ 101 ∷ 114 ∷ 32 ∷ 99 ∷ 108 ∷ 111 ∷ 99 ∷ 107 ∷ 10 ∷ []
+
+-- "bad plot"
+abbrev pub badPlot : List ℕ
+badPlot = 98 ∷ 97 ∷ 100 ∷ 32 ∷ 112 ∷ 108 ∷ 111 ∷ 116 ∷ 10 ∷ []
+
+-- ---- event lines: number, returned number, rule or -, messages sent
+
+unfoldable pub eventLine : ℕ → ℕ → ℕ → ℕ → List ℕ
+eventLine k code letter sent = decimal k ++ (32 ∷ (decimal code ++ (32 ∷ letter ∷ 32 ∷ (decimal sent ++ (10 ∷ [])))))
+
+unfoldable pub saidLine : ℕ → Said → List ℕ
+saidLine k s = eventLine k (s .number) (s .rule) (ones (s .sentTo))
+
+-- what a command prints, as line k, and the network after it; a malformed line prints 15 and does nothing
+unfoldable pub commandLine : ℕ → Network → ℕ → Command → List ℕ
+commandLine n p k (Up u v) = saidLine k (answer n p (up u v))
+commandLine n p k (Down u v) = saidLine k (answer n p (down u v))
+commandLine n p k (Receive u v) = saidLine k (answer n p (receive u v))
+commandLine n p k Malformed = eventLine k 15 45 0
+
+unfoldable pub afterCommand : ℕ → Network → Command → Network
+afterCommand n p (Up u v) = next n p (up u v)
+afterCommand n p (Down u v) = next n p (down u v)
+afterCommand n p (Receive u v) = next n p (receive u v)
+afterCommand n p Malformed = p
+
+unfoldable pub eventLines : ℕ → Network → ℕ → List (List ℕ) → List ℕ
+eventLines n p k [] = []
+eventLines n p k (l ∷ ls) = commandLine n p k (commandOf l) ++ eventLines n (afterCommand n p (commandOf l)) (suc k) ls
+
+unfoldable pub afterLines : ℕ → Network → List (List ℕ) → Network
+afterLines n p [] = p
+afterLines n p (l ∷ ls) = afterLines n (afterCommand n p (commandOf l)) ls
+
+-- ---- station lines: number, its own height's leader, its clock
+
+unfoldable pub stationLine : ℕ → ℕ → ℕ → List ℕ
+stationLine u leader clock = decimal u ++ (32 ∷ (decimal leader ++ (32 ∷ (decimal clock ++ (10 ∷ [])))))
+
+unfoldable pub stationLines : ℕ → Network → List ℕ
+stationLines n p = rows n (λ u. stationLine u (own p u .pair .lid) (p .clock u))
+
+-- ---- the whole output
+
+unfoldable pub plotListing : ℕ → List (List ℕ) → List ℕ
+plotListing n ls = eventHead ++ (eventLines n fresh 1 ls ++ (stationHead ++ stationLines n (afterLines n fresh ls)))
+
+-- by the first line: "N n", else only "bad plot"
+unfoldable pub headed : List (List ℕ) → List ℕ
+headed [] = badPlot
+headed (l ∷ ls) = cond (eqb (headOf l) 0) badPlot (plotListing (headOf l) ls)
+
+-- input of at most 65,536 bytes, else only "bad plot"
+unfoldable pub listing : List ℕ → List ℕ
+listing input = cond (leb (length input) 65536) (headed (linesOf input)) badPlot

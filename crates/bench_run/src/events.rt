@@ -1,0 +1,68 @@
+// The event lines: each is carried out on the tables and printed.
+ghost use mathlib.Core.Path.{_≡_};
+ghost use Prim.Native.Nat.{_+_, _^_, _≤_, _<_};
+ghost use lib.ListN.{length, drop};
+ghost use Rattle.bench_run.specs.OnTables.{commandLineOn, afterCommandOn, eventLinesOn, afterLinesOn};
+ghost use Rattle.commands.specs.Commands.{linesOf, commandOf};
+ghost use Rattle.tables.specs.Tables.{before, after};
+ghost use Rattle.text.specs.Text.{poured};
+use commands::Command;
+
+// Line k, at a place of the output.
+fn line(
+    text: &[u8],
+    k: u32,
+    n: u32,
+    nodes: &mut [u32],
+    channels: &mut [u32],
+    out: &mut [u8],
+    at: usize,
+) -> usize
+    requires { ⌜ at < 2 ^ 30 ⌝ }
+    ensures { λ r. ⌜ (now (out .exit) ≡ poured (now (out .entry)) at (commandLineOn n (before nodes channels) k (commandOf (now (text .entry)))))
+        × (r ≡ at + length (commandLineOn n (before nodes channels) k (commandOf (now (text .entry))))) × (r ≤ at + 35)
+        × (after nodes channels ≡ afterCommandOn n (before nodes channels) (commandOf (now (text .entry)))) ⌝ }
+{
+    match commands::parse(text) {
+        Command::Up(u, v) => {
+            let answer = election::up(n, u, v, nodes, channels);
+            super::lines::put_answer(out, at, k, answer)
+        }
+        Command::Down(u, v) => {
+            let answer = election::down(n, u, v, nodes, channels);
+            super::lines::put_answer(out, at, k, answer)
+        }
+        Command::Receive(u, v) => {
+            let answer = election::receive(n, u, v, nodes, channels);
+            super::lines::put_answer(out, at, k, answer)
+        }
+        Command::Malformed => super::lines::put_event(out, at, k, 15, b'-', 0),
+    }
+}
+
+// All lines of the input from a place on, numbered from 1.
+pub fn lines(
+    input: &[u8],
+    from: usize,
+    n: u32,
+    nodes: &mut [u32],
+    channels: &mut [u32],
+    out: &mut [u8],
+    at: usize,
+) -> usize
+    requires { ⌜ (at ≤ 64) × (length (now input) ≤ 65536) ⌝ }
+    ensures { λ r. ⌜ (now (out .exit) ≡ poured (now (out .entry)) at (eventLinesOn n (before nodes channels) 1 (linesOf (drop from (now (input .entry))))))
+        × (r ≡ at + length (eventLinesOn n (before nodes channels) 1 (linesOf (drop from (now (input .entry))))))
+        × (r < 2 ^ 28) × (after nodes channels ≡ afterLinesOn n (before nodes channels) (linesOf (drop from (now (input .entry))))) ⌝ }
+{
+    let mut start = from;
+    let mut k: u32 = 1;
+    let mut place = at;
+    while start < input.len() {
+        let end = commands::line_end(input, start);
+        place = line(&input[start..end], k, n, nodes, channels, out, place);
+        start = end + 1;
+        k += 1;
+    }
+    place
+}

@@ -1,0 +1,86 @@
+// The lines of a listing, poured into the bytes from a place on; the place behind each.
+ghost use mathlib.Core.List.{[], _∷_, _++_};
+ghost use mathlib.Core.Path.{_≡_};
+ghost use Prim.Native.Nat.{_+_, _^_, _≤_, _<_};
+ghost use lib.ListN.{length};
+ghost use Rattle.bench_run.specs.Listing.{eventHead, stationHead, badPlot, eventLine, saidLine, stationLine};
+ghost use Rattle.protocol.specs.Answer.{said};
+ghost use Rattle.text.specs.Text.{poured, decimal};
+use protocol::Answer;
+
+pub fn put_event_head(out: &mut [u8], at: usize) -> usize
+    requires { ⌜ at < 2 ^ 30 ⌝ }
+    ensures { λ r. ⌜ (now (out .exit) ≡ poured (now (out .entry)) at eventHead) × (r ≡ at + length eventHead) ⌝ }
+{
+    text::put_bytes(out, at, b"event code rule sent\n")
+}
+
+pub fn put_station_head(out: &mut [u8], at: usize) -> usize
+    requires { ⌜ at < 2 ^ 30 ⌝ }
+    ensures { λ r. ⌜ (now (out .exit) ≡ poured (now (out .entry)) at stationHead) × (r ≡ at + length stationHead) ⌝ }
+{
+    text::put_bytes(out, at, b"station leader clock\n")
+}
+
+pub fn put_bad_plot(out: &mut [u8]) -> usize
+    ensures { λ r. ⌜ (now (out .exit) ≡ poured (now (out .entry)) 0 badPlot) × (r ≡ length badPlot) ⌝ }
+{
+    text::put_bytes(out, 0, b"bad plot\n")
+}
+
+// A number in decimal, and the byte that ends it.
+fn put_number(out: &mut [u8], at: usize, x: u32, end: u8) -> usize
+    requires { ⌜ at < 2 ^ 31 ⌝ }
+    ensures { λ r. ⌜ (now (out .exit) ≡ poured (now (out .entry)) at (decimal x ++ (end ∷ []))) × (r ≡ at + length (decimal x ++ (end ∷ []))) × (r ≤ at + 11) ⌝ }
+{
+    let behind = text::put_decimal(out, at, x);
+    text::put_byte(out, behind, end)
+}
+
+// A letter and a space.
+fn put_letter(out: &mut [u8], at: usize, letter: u8) -> usize
+    requires { ⌜ at < 2 ^ 31 ⌝ }
+    ensures { λ r. ⌜ (now (out .exit) ≡ poured (now (out .entry)) at (letter ∷ 32 ∷ [])) × (r ≡ at + 2) ⌝ }
+{
+    let behind = text::put_byte(out, at, letter);
+    text::put_byte(out, behind, b' ')
+}
+
+// Number, returned number, rule or dash, messages sent.
+pub fn put_event(out: &mut [u8], at: usize, k: u32, code: u32, letter: u8, sent: u32) -> usize
+    requires { ⌜ at < 2 ^ 30 ⌝ }
+    ensures { λ r. ⌜ (now (out .exit) ≡ poured (now (out .entry)) at (eventLine k code letter sent))
+        × (r ≡ at + length (eventLine k code letter sent)) × (r ≤ at + 35) ⌝ }
+{
+    let a = put_number(out, at, k, b' ');
+    let b = put_number(out, a, code, b' ');
+    let c = put_letter(out, b, letter);
+    put_number(out, c, sent, b'\n')
+}
+
+// The line of an event's answer.
+pub fn put_answer(out: &mut [u8], at: usize, k: u32, answer: Answer) -> usize
+    requires { ⌜ at < 2 ^ 30 ⌝ }
+    ensures { λ r. ⌜ (now (out .exit) ≡ poured (now (out .entry)) at (saidLine k (said answer))) × (r ≡ at + length (saidLine k (said answer)))
+        × (r ≤ at + 35) ⌝ }
+{
+    put_event(
+        out,
+        at,
+        k,
+        protocol::number(answer),
+        protocol::letter(answer),
+        protocol::sent(answer),
+    )
+}
+
+// Number, leader, clock.
+pub fn put_station(out: &mut [u8], at: usize, u: u32, leader: u32, clock: u32) -> usize
+    requires { ⌜ at < 2 ^ 30 ⌝ }
+    ensures { λ r. ⌜ (now (out .exit) ≡ poured (now (out .entry)) at (stationLine u leader clock))
+        × (r ≡ at + length (stationLine u leader clock)) × (r ≤ at + 33) ⌝ }
+{
+    let a = put_number(out, at, u, b' ');
+    let b = put_number(out, a, leader, b' ');
+    put_number(out, b, clock, b'\n')
+}

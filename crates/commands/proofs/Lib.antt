@@ -1,0 +1,5 @@
+-- Laws of commands.
+pub mod Seeking
+pub mod NumberLaws
+pub mod CommandLaws
+pub mod LineLaws

@@ -1,0 +1,64 @@
+-- Lines, numbers and commands of a bench input: document 01, "The bench program".
+-- Single spaces; numbers of one or two digits without a leading zero, 0 itself allowed; the last line may lack its newline.
+use Prim.Native.Nat.{ℕ, suc, _+_, _-_, _*_}
+use mathlib.Core.Bool.{Bool, not, cond, _&&_}
+use mathlib.Core.List.{List, [], _∷_}
+use lib.Dec.{eqb, leb, ltb}
+use lib.ListN.{getD, take, drop}
+use Rattle.commands.specs.declared.Command.{Command}
+use Rattle.commands.specs.declared.Command.the-variants.{Up, Down, Receive, Malformed}
+
+-- ---- lines: a newline (10) ends one, and nothing stands after the last
+
+abbrev pub onFirst : ℕ → List (List ℕ) → List (List ℕ)
+onFirst b [] = (b ∷ []) ∷ []
+onFirst b (l ∷ ls) = (b ∷ l) ∷ ls
+
+unfoldable pub linesOf : List ℕ → List (List ℕ)
+linesOf [] = []
+linesOf (b ∷ bs) = cond (eqb b 10) ([] ∷ linesOf bs) (onFirst b (linesOf bs))
+
+-- how many bytes stand before the first newline
+unfoldable pub toNewline : List ℕ → ℕ
+toNewline [] = 0
+toNewline (b ∷ bs) = cond (eqb b 10) 0 (suc (toNewline bs))
+
+-- ---- numbers, 0 to 99; 100 stands for none
+
+abbrev pub none : ℕ
+none = 100
+
+abbrev pub isDigit : ℕ → Bool
+isDigit b = leb 48 b && leb b 57
+
+unfoldable pub numberOf : List ℕ → ℕ
+numberOf [] = none
+numberOf (a ∷ []) = cond (isDigit a) (a - 48) none
+numberOf (a ∷ b ∷ []) = cond (isDigit a && isDigit b && not (eqb a 48)) (10 * (a - 48) + (b - 48)) none
+numberOf (a ∷ b ∷ c ∷ l) = none
+
+-- ---- commands
+
+-- how many bytes stand before the first space (32)
+unfoldable pub toSpace : List ℕ → ℕ
+toSpace [] = 0
+toSpace (b ∷ bs) = cond (eqb b 32) 0 (suc (toSpace bs))
+
+-- U, D or M with two numbers
+unfoldable pub named : ℕ → ℕ → ℕ → Command
+named kind u v =
+    cond (ltb u none && ltb v none)
+    (cond (eqb kind 85) (Up u v) (cond (eqb kind 68) (Down u v) (cond (eqb kind 77) (Receive u v) Malformed))) Malformed
+
+-- an event line: "U u v", "D u v" or "M u v" (receipt at v from u)
+unfoldable pub commandOf : List ℕ → Command
+commandOf l =
+    cond (eqb (getD l 1 0) 32)
+    (named (getD l 0 0) (numberOf (take (toSpace (drop 2 l)) (drop 2 l))) (numberOf (drop (suc (toSpace (drop 2 l))) (drop 2 l)))) Malformed
+
+-- the first line "N n", n from 1 to 16; 0 for any other
+abbrev pub inRange : ℕ → ℕ
+inRange n = cond (leb 1 n && leb n 16) n 0
+
+unfoldable pub headOf : List ℕ → ℕ
+headOf l = cond (eqb (getD l 0 0) 78 && eqb (getD l 1 0) 32) (inRange (numberOf (drop 2 l))) 0

@@ -1,0 +1,2 @@
+-- Commands of a bench input.
+pub mod Commands

@@ -1,0 +1,3 @@
+-- Laws of text.
+-- Assumes nothing.
+pub mod TextLaws

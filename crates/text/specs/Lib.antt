@@ -1,0 +1,3 @@
+-- Text in lent bytes.
+-- Assumes nothing: these are definitions.
+pub mod Text

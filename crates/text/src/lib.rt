@@ -1,0 +1,44 @@
+// Text in ASCII goes into lent bytes from a place on, as far as they reach; each function answers the place behind it.
+// So the same code counts how long a text is (no bytes lent) and writes it.
+ghost use mathlib.Core.List.{[], _∷_};
+ghost use mathlib.Core.Path.{_≡_};
+ghost use Prim.Native.Nat.{_+_, _^_, _<_};
+ghost use lib.ListN.{length};
+ghost use Rattle.text.specs.Text.{poured, decimal};
+
+// One byte.
+pub fn put_byte(out: &mut [u8], at: usize, b: u8) -> usize
+    requires { ⌜ at < 2 ^ 32 ⌝ }
+    ensures { λ r. ⌜ (now (out .exit) ≡ poured (now (out .entry)) at (b ∷ [])) × (r ≡ at + 1) ⌝ }
+{
+    if at < out.len() {
+        out[at] = b;
+    }
+    at + 1
+}
+
+// Some bytes.
+pub fn put_bytes(out: &mut [u8], at: usize, bytes: &[u8]) -> usize
+    requires { ⌜ at + length (now bytes) < 2 ^ 32 ⌝ }
+    ensures { λ r. ⌜ (now (out .exit) ≡ poured (now (out .entry)) at (now (bytes .entry))) × (r ≡ at + length (now (bytes .entry))) ⌝ }
+{
+    let mut place = at;
+    let mut k: usize = 0;
+    while k < bytes.len() {
+        place = put_byte(out, place, bytes[k]);
+        k += 1;
+    }
+    place
+}
+
+// A number in decimal: the number without its last digit, where it has more than one, and then that digit.
+pub fn put_decimal(out: &mut [u8], at: usize, x: u32) -> usize
+    requires { ⌜ at < 2 ^ 31 ⌝ }
+    ensures { λ r. ⌜ (now (out .exit) ≡ poured (now (out .entry)) at (decimal x)) × (r ≡ at + length (decimal x)) ⌝ }
+{
+    let mut place = at;
+    if x >= 10 {
+        place = put_decimal(out, at, x / 10);
+    }
+    put_byte(out, place, 48 + (x % 10) as u8)
+}
