@@ -111,7 +111,7 @@ below-cells d n cs = below-rows 2 n (cellsFromBits d n cs) (omega arith) (below-
 
 -- ---- how far the channels reach
 
-rows-le : (w k : ℕ) (f : ℕ → List ℕ) → ((i : ℕ) → i < k → length (f (suc i)) ≤ w) → length (rows k f) ≤ k * w
+pub rows-le : (w k : ℕ) (f : ℕ → List ℕ) → ((i : ℕ) → i < k → length (f (suc i)) ≤ w) → length (rows k f) ≤ k * w
 unfolding rows
 rows-le w zero f h = omega arith
 rows-le w (suc k) f h =

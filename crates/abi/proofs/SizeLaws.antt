@@ -1,0 +1,34 @@
+-- The numbers of nodes, 1 to 16, and the products that follow from them.
+-- Assumes nothing.
+use Prim.Native.Nat.{ℕ, _+_, _-_, _*_, _≤_}
+use native.Mathlib.Nat.{mul-le-mul}
+use native.Mathlib.Omega.{arith}
+use mathlib.Core.Bool.{Bool, true}
+use mathlib.Core.Path.{_≡_, sym, _∙_}
+use Rattle.protocol.specs.Component.{Node}
+use Rattle.protocol.proofs.TestsLaws.{is-node}
+use Rattle.abi.specs.Sizes.{isSize}
+
+pub size-of : (n : ℕ) {r : Bool} → r ≡ isSize n → r ≡ true → Node 16 n
+size-of n e t = is-node 16 n (sym e ∙ t)
+
+-- ---- products
+
+module _ (n : ℕ) (size : Node 16 n) where
+  pub square-le : n * n ≤ 256
+  square-le = mul-le-mul (size .high) (size .high)
+
+  pub nodes-le : n * (3 + 7 * n) ≤ 1840
+  nodes-le =
+      let a : 3 + 7 * n ≤ 115 = omega (arith, size .high) in
+      mul-le-mul (size .high) a
+
+  pub records-le : n * (64 + 96 * n) ≤ 25600
+  records-le =
+      let a : 64 + 96 * n ≤ 1600 = omega (arith, size .high) in
+      mul-le-mul (size .high) a
+
+  pub pairs-le : n * (n - 1) ≤ 240
+  pairs-le =
+      let a : n - 1 ≤ 15 = omega (arith, size .high) in
+      mul-le-mul (size .high) a

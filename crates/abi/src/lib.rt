@@ -1,0 +1,222 @@
+// The calls for C and Rust (include/election.h): those of `network`, `election` and `snapshot`, with a plain struct as the answer.
+// Every call takes anything; its contract is the equation of the call that it makes.
+ghost use mathlib.Core.Path.{_≡_};
+ghost use lib.Count.{ones};
+ghost use Rattle.election.specs.StepOn.{outcome, stepOn};
+ghost use Rattle.network.specs.Check.{checkOn};
+ghost use Rattle.network.specs.Fresh.{filled, freshOn};
+ghost use Rattle.protocol.specs.Step.{up, down, receive};
+ghost use Rattle.snapshot.specs.ReadNode.{looked, readNodeOn};
+ghost use Rattle.snapshot.specs.Restore.{restoreOn};
+ghost use Rattle.snapshot.specs.Save.{saving, saveOn};
+ghost use Rattle.tables.specs.Tables.{before, after};
+ghost use Rattle.abi.specs.Report.{saidReport, saidCheckReport, saidSaveReport, saidNodeReport};
+ghost use Rattle.abi.specs.Sizes.{isSize, nodesLength, channelsLength, rowLength, imageLength};
+
+mod reports;
+
+// What an event answers: election_answer.
+#[repr(C)]
+pub struct AnswerReport {
+    pub number: u32,
+    pub fault_at: u32,
+    pub fault_with: u32,
+    pub rule: u32,
+    pub sent_to: u32,
+    pub sent: u32,
+    pub adopted_from: u32,
+    pub level_tau: u32,
+    pub level_originator: u32,
+    pub level_bit: u32,
+}
+
+// What a check, a fresh network or a restore answers: election_checked.
+#[repr(C)]
+pub struct CheckReport {
+    pub number: u32,
+    pub fault_at: u32,
+    pub fault_with: u32,
+}
+
+// What a save answers: election_saved.
+#[repr(C)]
+pub struct SaveReport {
+    pub number: u32,
+    pub fault_at: u32,
+    pub fault_with: u32,
+    pub size: u64,
+}
+
+// What a look at one node answers: election_station.
+#[repr(C)]
+pub struct NodeReport {
+    pub number: u32,
+    pub fault_at: u32,
+    pub fault_with: u32,
+    pub clock: u32,
+    pub linked: u32,
+    pub forming: u32,
+}
+
+// ---- how much to lend
+
+// n from 1 to 16.
+fn is_size(n: u32) -> bool
+    ensures { λ r. ⌜ r ≡ isSize n ⌝ }
+{
+    (1 <= n) & (n <= 16)
+}
+
+// Words of the nodes' table.
+#[no_mangle]
+pub extern "C" fn election_nodes_len(n: u32) -> usize
+    ensures { λ r. ⌜ r ≡ nodesLength n ⌝ }
+{
+    if is_size(n) {
+        let k = n as usize;
+        return k * (3 + 7 * k);
+    }
+    0
+}
+
+// Words of the channels' table.
+#[no_mangle]
+pub extern "C" fn election_channels_len(n: u32) -> usize
+    ensures { λ r. ⌜ r ≡ channelsLength n ⌝ }
+{
+    if is_size(n) {
+        let k = n as usize;
+        return k * k * 65;
+    }
+    0
+}
+
+// Words of one node's row of heights.
+#[no_mangle]
+pub extern "C" fn election_row_len(n: u32) -> usize
+    ensures { λ r. ⌜ r ≡ rowLength n ⌝ }
+{
+    if is_size(n) {
+        return (n as usize) * 7;
+    }
+    0
+}
+
+// Bytes that hold every image.
+#[no_mangle]
+pub extern "C" fn election_image_len(n: u32) -> usize
+    ensures { λ r. ⌜ r ≡ imageLength n ⌝ }
+{
+    if is_size(n) {
+        let k = n as usize;
+        let nodes = k * (64 + 96 * k);
+        let channels = k * (k - 1) * (4 + 8 * 128);
+        return (32 + nodes + channels) / 8;
+    }
+    0
+}
+
+// ---- tables
+
+// The fresh network of n nodes.
+#[no_mangle]
+pub extern "C" fn election_fresh(n: u32, nodes: &mut [u32], channels: &mut [u32]) -> CheckReport
+    ensures { λ r. ⌜ filled (saidCheckReport r) (after nodes channels) ≡ freshOn n (before nodes channels) ⌝ }
+{
+    reports::of_check(network::fresh(n, nodes, channels))
+}
+
+// Refusals 1 and 2.
+#[no_mangle]
+pub extern "C" fn election_check(n: u32, nodes: &[u32], channels: &[u32]) -> CheckReport
+    ensures { λ r. ⌜ saidCheckReport r ≡ checkOn n (before nodes channels) ⌝ }
+{
+    reports::of_check(network::check(n, nodes, channels))
+}
+
+// ---- events
+
+// Channel u to v goes up, at u.
+#[no_mangle]
+pub extern "C" fn election_up(
+    n: u32,
+    u: u32,
+    v: u32,
+    nodes: &mut [u32],
+    channels: &mut [u32],
+) -> AnswerReport
+    ensures { λ r. ⌜ outcome (saidReport r) (after nodes channels) ≡ stepOn n (up u v) (before nodes channels) ⌝ }
+    ensures { λ r. ⌜ r .sent ≡ ones (r .«sent_to») ⌝ }
+{
+    reports::of_answer(election::up(n, u, v, nodes, channels))
+}
+
+// Channel u to v goes down, at u.
+#[no_mangle]
+pub extern "C" fn election_down(
+    n: u32,
+    u: u32,
+    v: u32,
+    nodes: &mut [u32],
+    channels: &mut [u32],
+) -> AnswerReport
+    ensures { λ r. ⌜ outcome (saidReport r) (after nodes channels) ≡ stepOn n (down u v) (before nodes channels) ⌝ }
+    ensures { λ r. ⌜ r .sent ≡ ones (r .«sent_to») ⌝ }
+{
+    reports::of_answer(election::down(n, u, v, nodes, channels))
+}
+
+// The first message of channel `from` to `to` is received, at `to`.
+#[no_mangle]
+pub extern "C" fn election_receive(
+    n: u32,
+    from: u32,
+    to: u32,
+    nodes: &mut [u32],
+    channels: &mut [u32],
+) -> AnswerReport
+    ensures { λ r. ⌜ outcome (saidReport r) (after nodes channels) ≡ stepOn n (receive from to) (before nodes channels) ⌝ }
+    ensures { λ r. ⌜ r .sent ≡ ones (r .«sent_to») ⌝ }
+{
+    reports::of_answer(election::receive(n, from, to, nodes, channels))
+}
+
+// ---- images
+
+// The image of the network goes to the front of `out`.
+#[no_mangle]
+pub extern "C" fn election_save(
+    n: u32,
+    nodes: &[u32],
+    channels: &[u32],
+    out: &mut [u8],
+) -> SaveReport
+    ensures { λ r. ⌜ saving (saidSaveReport r) (now (out .exit)) ≡ saveOn n (before nodes channels) (now (out .entry)) ⌝ }
+{
+    reports::of_save(snapshot::save(n, nodes, channels, out))
+}
+
+// The network of an image goes into the tables.
+#[no_mangle]
+pub extern "C" fn election_restore(
+    image: &[u8],
+    nodes: &mut [u32],
+    channels: &mut [u32],
+) -> CheckReport
+    ensures { λ r. ⌜ filled (saidCheckReport r) (after nodes channels) ≡ restoreOn (now (image .entry)) (before nodes channels) ⌝ }
+{
+    reports::of_restore(snapshot::restore(image, nodes, channels))
+}
+
+// Node k of an image, where its record is said to start: the heights go into `row`.
+#[no_mangle]
+pub extern "C" fn election_read_node(
+    image: &[u8],
+    k: u32,
+    place: u64,
+    row: &mut [u32],
+) -> NodeReport
+    ensures { λ r. ⌜ looked (saidNodeReport r) (now (row .exit)) ≡ readNodeOn (now (image .entry)) k place (now (row .entry)) ⌝ }
+{
+    reports::of_node(snapshot::read_node(image, k, place, row))
+}
