@@ -1,0 +1,256 @@
+//! One plot in both: the reference's plot and the tables lent to the interface.
+
+use crate::ffi;
+use crate::random::Random;
+use crate::tally::Tally;
+use reference::history::History;
+use reference::image;
+use reference::plot::Plot;
+use reference::quiet;
+use reference::refusal::Refusal;
+use reference::step::{self, Answer, Event};
+use reference::tables::{self, Tables};
+
+pub struct Beside {
+    pub plot: Plot,
+    pub tables: Tables,
+    pub history: History,
+    pub events: u64,
+}
+
+impl Beside {
+    /// The fresh plot of n in both, from tables that held anything.
+    pub fn fresh(n: i64, random: &mut Random) -> Beside {
+        let mut tables = junk_tables(n, random);
+        let answer = ffi::fresh(n as u32, &mut tables.nodes, &mut tables.channels);
+        assert_eq!(answer, expected_check(Ok(())));
+        let beside = Beside {
+            tables,
+            ..Beside::planted(Plot::fresh(n))
+        };
+        beside.assert_same_tables();
+        beside
+    }
+
+    /// A given plot in both. Its history is unknown, so nothing is asked of it.
+    pub fn planted(plot: Plot) -> Beside {
+        Beside {
+            tables: tables::store(&plot),
+            plot,
+            history: History::default(),
+            events: 0,
+        }
+    }
+
+    pub fn n(&self) -> i64 {
+        self.plot.n
+    }
+
+    /// The same event in both: the same answer, and the same words in the tables.
+    pub fn step(&mut self, event: Event, tally: &mut Tally) -> Answer {
+        self.events += 1;
+        let answer = step::step(&mut self.plot, event);
+        let answered = ffi::step(
+            self.n() as u32,
+            event,
+            &mut self.tables.nodes,
+            &mut self.tables.channels,
+        );
+        let count = self.events;
+        assert_eq!(
+            answered,
+            expected_answer(&answer),
+            "event {count}: {event:?}"
+        );
+        self.assert_same_tables();
+        self.history.note(event, &answer);
+        note_event(event, &answer, tally);
+        answer
+    }
+
+    /// The tables hold exactly the reference's plot.
+    pub fn assert_same_tables(&self) {
+        assert_same(&tables::store(&self.plot), &self.tables);
+    }
+
+    /// Saves in both, with bytes to spare: the same bytes, and those behind stay.
+    pub fn save(&self, random: &mut Random, tally: &mut Tally) -> Vec<u8> {
+        let image = image::write(&self.plot);
+        let room = image.len() + random.below(9);
+        compare_save(self.n(), &self.tables, room, random, tally);
+        image
+    }
+
+    /// Resumes the plot of an image that an earlier save wrote.
+    pub fn resume(&mut self, image: &[u8], tally: &mut Tally) {
+        let (nodes, channels) = (self.tables.nodes.len(), self.tables.channels.len());
+        self.plot = image::resume(image, nodes, channels).expect("a saved image");
+        let answer = ffi::restore(image, &mut self.tables.nodes, &mut self.tables.channels);
+        assert_eq!(answer, expected_check(Ok(())));
+        self.assert_same_tables();
+        tally.note("restore 0");
+    }
+
+    /// Demand 3, if the network is quiet. The tables are those of the interface, read afresh.
+    pub fn check_quiet(&self, tally: &mut Tally) {
+        if !quiet::is_quiet(&self.plot) {
+            return;
+        }
+        let lent = tables::load(self.n(), &self.tables.nodes, &self.tables.channels);
+        let lent = lent.expect("sound tables");
+        assert_eq!(quiet::settled(&lent), Ok(()), "demand 3: {lent:?}");
+        tally.note("quiet networks");
+        for group in quiet::groups(&lent) {
+            let size = if group.len() == 1 { "one" } else { "more" };
+            tally.note(format!("quiet groups of {size}"));
+        }
+    }
+}
+
+/// Tables of the length for n that hold anything.
+pub fn junk_tables(n: i64, random: &mut Random) -> Tables {
+    Tables {
+        nodes: random.words(tables::nodes_len(n)),
+        channels: random.words(tables::channels_len(n)),
+    }
+}
+
+/// Panics at the first word that differs.
+pub fn assert_same(expected: &Tables, lent: &Tables) {
+    assert_same_words("nodes", &expected.nodes, &lent.nodes);
+    assert_same_words("channels", &expected.channels, &lent.channels);
+}
+
+/// Panics at the first word that differs.
+pub fn assert_same_words(name: &str, expected: &[u32], lent: &[u32]) {
+    assert_eq!(expected.len(), lent.len(), "length of {name}");
+    let differing = (0..lent.len()).find(|&at| expected[at] != lent[at]);
+    if let Some(at) = differing {
+        panic!(
+            "word {at} of {name}: {} expected, {} found",
+            expected[at], lent[at]
+        );
+    }
+}
+
+/// Counts an event by its kind and its rule, or its refusal.
+pub fn note_event(event: Event, answer: &Answer, tally: &mut Tally) {
+    let kind = match event {
+        Event::Up { .. } => "up",
+        Event::Down { .. } => "down",
+        Event::Receipt { .. } => "receipt",
+    };
+    match answer.rule {
+        Some(rule) => tally.note(format!("{kind} {}", rule.letter())),
+        None => tally.note(format!("{kind} {}", answer.number)),
+    }
+}
+
+/// The interface's form of an answer.
+pub fn expected_answer(answer: &Answer) -> ffi::Answer {
+    let (fault_at, fault_with) = answer.fault.unwrap_or((0, 0));
+    let level = answer.level_taken.unwrap_or(reference::plot::NO_SEARCH);
+    ffi::Answer {
+        number: answer.number as u32,
+        fault_at: fault_at as u32,
+        fault_with: fault_with as u32,
+        rule: answer.letter() as u32,
+        sent_to: tables::set_word(&answer.sent_to),
+        sent: answer.sent_to.len() as u32,
+        adopted_from: answer.adopted_from.unwrap_or(0) as u32,
+        level_tau: level.tau as u32,
+        level_originator: level.originator as u32,
+        level_bit: level.bit as u32,
+    }
+}
+
+/// The interface's form of a check.
+pub fn expected_check(result: Result<(), Refusal>) -> ffi::Checked {
+    let refusal = result.err();
+    let (fault_at, fault_with) = refusal.and_then(Refusal::pair).unwrap_or((0, 0));
+    ffi::Checked {
+        number: refusal.map_or(0, Refusal::number) as u32,
+        fault_at: fault_at as u32,
+        fault_with: fault_with as u32,
+    }
+}
+
+/// The number of a result, for the tally.
+pub fn number_of<T>(result: &Result<T, Refusal>) -> i64 {
+    result.as_ref().err().map_or(0, |refusal| refusal.number())
+}
+
+/// A check of any tables in both.
+pub fn compare_check(n: i64, lent: &Tables, tally: &mut Tally) {
+    let expected = tables::check(n, &lent.nodes, &lent.channels);
+    tally.note(format!("check {}", number_of(&expected)));
+    let answer = ffi::check(n as u32, &lent.nodes, &lent.channels);
+    assert_eq!(answer, expected_check(expected), "check");
+}
+
+/// An event on any tables in both.
+pub fn compare_step(n: i64, event: Event, lent: &Tables, tally: &mut Tally) {
+    let mut expected = lent.clone();
+    let answer = tables::step(n, event, &mut expected);
+    note_event(event, &answer, tally);
+    let mut changed = lent.clone();
+    let answered = ffi::step(n as u32, event, &mut changed.nodes, &mut changed.channels);
+    assert_eq!(answered, expected_answer(&answer), "{event:?}");
+    assert_same(&expected, &changed);
+}
+
+/// A save of any tables into any room in both: the answer, the image, and the bytes behind it.
+pub fn compare_save(n: i64, lent: &Tables, room: usize, random: &mut Random, tally: &mut Tally) {
+    let expected = image::save(n, &lent.nodes, &lent.channels, room);
+    tally.note(format!("save {}", number_of(&expected)));
+    let mut out = random.bytes(room);
+    let mut filled = out.clone();
+    let answer = ffi::save(n as u32, &lent.nodes, &lent.channels, &mut out);
+    let image = expected.as_deref().unwrap_or(&[]);
+    filled[..image.len()].copy_from_slice(image);
+    assert!(out == filled, "bytes of a save");
+    let check = expected_check(expected.as_ref().map(|_| ()).map_err(|&refusal| refusal));
+    let expected = ffi::Saved {
+        number: check.number,
+        fault_at: check.fault_at,
+        fault_with: check.fault_with,
+        size: image.len() as u64,
+    };
+    assert_eq!(answer, expected, "save");
+}
+
+/// A resume of any image into tables that held anything, in both.
+pub fn compare_restore(image: &[u8], mut lent: Tables, tally: &mut Tally) {
+    let resumed = image::resume(image, lent.nodes.len(), lent.channels.len());
+    tally.note(format!("restore {}", number_of(&resumed)));
+    let before = lent.clone();
+    let answer = ffi::restore(image, &mut lent.nodes, &mut lent.channels);
+    let check = resumed.as_ref().map(|_| ()).map_err(|&refusal| refusal);
+    assert_eq!(answer, expected_check(check), "restore");
+    assert_same(&resumed.map_or(before, |plot| tables::store(&plot)), &lent);
+}
+
+/// A look at one station of any image, into a row that held anything, in both.
+pub fn compare_look(image: &[u8], k: i64, place: u64, mut row: Vec<u32>, tally: &mut Tally) {
+    let looked = image::look(image, k, place, row.len());
+    tally.note(format!("look {}", number_of(&looked)));
+    let mut lent = row.clone();
+    let answer = ffi::read_node(image, k as u32, place, &mut lent);
+    let check = expected_check(looked.as_ref().map(|_| ()).map_err(|&refusal| refusal));
+    let mut expected = ffi::Looked {
+        number: check.number,
+        fault_at: check.fault_at,
+        fault_with: check.fault_with,
+        clock: 0,
+        linked: 0,
+        forming: 0,
+    };
+    if let Ok(look) = looked {
+        expected.clock = look.clock;
+        expected.linked = look.linked;
+        expected.forming = look.forming;
+        row = look.row;
+    }
+    assert_eq!(answer, expected, "look at {k}, place {place}");
+    assert_same_words("row", &row, &lent);
+}

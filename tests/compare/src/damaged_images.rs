@@ -1,0 +1,84 @@
+//! Damaged images in both: the same number with the same pair, and nothing lent changed.
+
+use crate::beside::{compare_look, compare_restore, junk_tables};
+use crate::damage;
+use crate::planted;
+use crate::random::Random;
+use crate::rounds::Named;
+use crate::tally::Tally;
+use reference::image;
+use reference::plot::Plot;
+use reference::tables;
+
+/// Damages the images of two plots in several ways, each from the sound ones.
+pub fn damaged_images(seed: u64, tally: &mut Tally) {
+    let _named = Named::new("damaged images", seed);
+    let mut random = Random::new(seed);
+    let n = random.between(1, 16);
+    let one = any_plot(n, &mut random);
+    let n_of_other = if random.chance(60) {
+        n
+    } else {
+        random.between(1, 16)
+    };
+    let other = any_plot(n_of_other, &mut random);
+    let (one_image, other_image) = (image::write(&one), image::write(&other));
+    for _ in 0..15 {
+        let mut bytes = if random.chance(20) {
+            damage::join_halves(&one_image, &other_image, &mut random)
+        } else {
+            one_image.clone()
+        };
+        for _ in 0..random.pick(&[0, 1, 1, 1, 2, 3]) {
+            damage::damage_image(&mut bytes, &one, &mut random);
+        }
+        read_both_ways(&bytes, n, &mut random, tally);
+    }
+    read_both_ways(&anything(n, &mut random), n, &mut random, tally);
+}
+
+/// A planted plot, or a fresh one whose image can be cut to that of a smaller plot.
+fn any_plot(n: i64, random: &mut Random) -> Plot {
+    if random.chance(20) {
+        Plot::fresh(n)
+    } else {
+        planted::sound_plot(n, random)
+    }
+}
+
+/// Bytes of anything behind a right header for n.
+fn anything(n: i64, random: &mut Random) -> Vec<u8> {
+    let most = image::longest(n);
+    let mut bytes = random.bytes(4 + most);
+    bytes.truncate(random.below(bytes.len()));
+    damage::put_bits(&mut bytes, 0, 32, header_word(n));
+    bytes
+}
+
+/// The 32 bits of a right header.
+fn header_word(n: i64) -> u32 {
+    (1 << 28) | (32 << 16) | ((n as u32) << 11)
+}
+
+/// Reads bytes as a whole image and as one station, mostly into tables and a row of the header's length.
+fn read_both_ways(bytes: &[u8], n: i64, random: &mut Random, tally: &mut Tally) {
+    let said = image::header(bytes).unwrap_or(n);
+    let lent_n = if random.chance(90) {
+        said
+    } else {
+        random.between(0, 16)
+    };
+    let mut lent = junk_tables(lent_n, random);
+    if random.chance(3) {
+        lent.nodes.push(7);
+    }
+    if random.chance(3) {
+        lent.channels.pop();
+    }
+    compare_restore(bytes, lent, tally);
+
+    let k = random.between(0, said + 1);
+    let place = image::place_of(said, k.max(1)) as u64 + random.pick(&[0, 0, 0, 1, 96]);
+    let row = random.words(tables::row_len(lent_n));
+    compare_look(bytes, k, place, row, tally);
+}

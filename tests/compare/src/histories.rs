@@ -1,0 +1,382 @@
+//! Random histories in both: channels go up and down at one end only, messages are received in any order of channels.
+
+use crate::beside::{Beside, compare_restore};
+use crate::damage;
+use crate::planted;
+use crate::random::Random;
+use crate::rounds::Named;
+use crate::tally::Tally;
+use reference::history::History;
+use reference::image;
+use reference::plot::{Plot, ordered_pairs};
+use reference::step::Event;
+
+/// What a history does next.
+#[derive(Clone, Copy)]
+enum Move {
+    Receipt,
+    Up,
+    Down,
+    Link,
+    Unlink,
+    Settle,
+    Wrong,
+    Save,
+    Resume,
+    BadResume,
+    ThereAndBack,
+}
+
+const MOVES: [Move; 11] = [
+    Move::Receipt,
+    Move::Up,
+    Move::Down,
+    Move::Link,
+    Move::Unlink,
+    Move::Settle,
+    Move::Wrong,
+    Move::Save,
+    Move::Resume,
+    Move::BadResume,
+    Move::ThereAndBack,
+];
+
+/// How likely each move is: histories with many and with few receipts, with many breaks, and with channels that fill up.
+const WEIGHTS: [[usize; 11]; 5] = [
+    [60, 6, 3, 8, 3, 3, 2, 1, 1, 1, 1],
+    [20, 20, 10, 10, 3, 1, 5, 1, 1, 1, 1],
+    [40, 3, 2, 6, 6, 8, 2, 2, 2, 1, 2],
+    [150, 20, 15, 10, 5, 1, 2, 1, 1, 1, 1],
+    [10, 45, 35, 5, 0, 0, 2, 1, 1, 1, 1],
+];
+
+/// A save of the list: the bytes, the plot and the history as they stood.
+struct Kept {
+    image: Vec<u8>,
+    plot: Plot,
+    history: History,
+}
+
+/// A history under way.
+struct Run {
+    beside: Beside,
+    random: Random,
+    pairs: Vec<(i64, i64)>,
+    weights: [usize; 11],
+    kept: Vec<Kept>,
+    left: i64,
+}
+
+/// One history from the fresh plot of any n. Demand 3 is checked whenever the network is quiet, and at the end the channels are
+/// those that the history tells.
+pub fn fresh_history(seed: u64, tally: &mut Tally) {
+    let _named = Named::new("fresh history", seed);
+    let mut random = Random::new(seed);
+    let n = random.between(1, 16);
+    let beside = Beside::fresh(n, &mut random);
+    let mut run = Run {
+        beside,
+        pairs: likely_pairs(n, &mut random),
+        weights: random.pick(&WEIGHTS),
+        kept: Vec::new(),
+        left: random.between(20, 600),
+        random,
+    };
+    while run.left > 0 {
+        run.one_move(tally);
+    }
+    run.mend(tally);
+    run.deliver(2000, tally);
+    run.assert_history_agrees();
+}
+
+/// One short history from a planted plot: no demand 3, but the ends of clocks, depths and channels.
+pub fn planted_history(seed: u64, tally: &mut Tally) {
+    let _named = Named::new("planted history", seed);
+    let mut random = Random::new(seed);
+    let n = random.between(1, 16);
+    let plot = planted::sound_plot(n, &mut random);
+    let mut beside = Beside::planted(plot);
+    beside.assert_same_tables();
+    for _ in 0..30 {
+        let event = planted_event(&beside.plot, &mut random);
+        beside.step(event, tally);
+    }
+    let image = beside.save(&mut random, tally);
+    beside.resume(&image, tally);
+}
+
+/// Mostly a receipt of a message that waits, sometimes a channel up or down, sometimes anything.
+pub fn planted_event(plot: &Plot, random: &mut Random) -> Event {
+    let waiting = waiting_pairs(plot);
+    let pairs = ordered_pairs(plot.n);
+    let up: Vec<_> = of_those(&pairs, |u, v| plot.is_up(u, v));
+    let choice = match random.below(10) {
+        0..=5 => random.pick_any(&waiting).map(receipt),
+        6..=8 => random.pick_any(&up).map(|(u, v)| Event::Down { u, v }),
+        _ => random.pick_any(&pairs).map(|(u, v)| Event::Up { u, v }),
+    };
+    choice.unwrap_or_else(|| any_event(plot.n, random))
+}
+
+/// An event with numbers that may name no station, or one twice.
+pub fn any_event(n: i64, random: &mut Random) -> Event {
+    let last = i64::from(u32::MAX);
+    let odd = [
+        0,
+        0,
+        n + 1,
+        16,
+        17,
+        32,
+        33,
+        64,
+        65,
+        256,
+        257,
+        last - 1,
+        last,
+    ];
+    let mut any = || {
+        if random.chance(70) {
+            random.between(1, n)
+        } else {
+            random.pick(&odd)
+        }
+    };
+    let (u, v) = (any(), any());
+    match random.below(3) {
+        0 => Event::Up { u, v },
+        1 => Event::Down { u, v },
+        _ => Event::Receipt { from: u, to: v },
+    }
+}
+
+fn receipt((from, to): (i64, i64)) -> Event {
+    Event::Receipt { from, to }
+}
+
+fn of_those(pairs: &[(i64, i64)], wanted: impl Fn(i64, i64) -> bool) -> Vec<(i64, i64)> {
+    let those = pairs.iter().copied();
+    those.filter(|&(u, v)| wanted(u, v)).collect()
+}
+
+/// The channels with a message.
+fn waiting_pairs(plot: &Plot) -> Vec<(i64, i64)> {
+    let channels = plot.channels.iter();
+    let with_message = channels.filter(|(_, waiting)| !waiting.is_empty());
+    with_message.map(|(&pair, _)| pair).collect()
+}
+
+/// The pairs that a history mostly links: a line, a ring, a star, a tree, or all of them. Chains of stations are where levels
+/// start, meet and come back.
+fn likely_pairs(n: i64, random: &mut Random) -> Vec<(i64, i64)> {
+    let shape = random.below(5);
+    let mut ones: Vec<(i64, i64)> = match shape {
+        0 => (2..=n).map(|k| (k - 1, k)).collect(),
+        1 => (1..=n).map(|k| (k, k % n + 1)).collect(),
+        2 => (2..=n).map(|k| (1, k)).collect(),
+        3 => (2..=n).map(|k| (random.between(1, k - 1), k)).collect(),
+        _ => ordered_pairs(n),
+    };
+    ones.retain(|(u, v)| u != v);
+    ones
+}
+
+impl Run {
+    fn one_move(&mut self, tally: &mut Tally) {
+        match MOVES[self.random.weighted(&self.weights)] {
+            Move::Receipt => self.receive(tally),
+            Move::Up => self.up(tally),
+            Move::Down => self.down(tally),
+            Move::Link => self.link(tally),
+            Move::Unlink => self.unlink(tally),
+            Move::Settle => self.settle(tally),
+            Move::Wrong => self.wrong(tally),
+            Move::Save => self.save(tally),
+            Move::Resume => self.resume(tally),
+            Move::BadResume => self.bad_resume(tally),
+            Move::ThereAndBack => self.there_and_back(tally),
+        }
+        self.left -= 1;
+    }
+
+    /// An event in both, and demand 3 if the network is now quiet.
+    fn step(&mut self, event: Event, tally: &mut Tally) {
+        self.left -= 1;
+        self.beside.step(event, tally);
+        self.beside.check_quiet(tally);
+    }
+
+    fn receive(&mut self, tally: &mut Tally) {
+        let waiting = waiting_pairs(&self.beside.plot);
+        match self.random.pick_any(&waiting) {
+            Some(pair) => self.step(receipt(pair), tally),
+            None => self.up(tally),
+        }
+    }
+
+    /// A pair that this history mostly links, in either order; rarely any other.
+    fn likely_pair(&mut self) -> Option<(i64, i64)> {
+        let pairs = if self.random.chance(5) {
+            ordered_pairs(self.beside.n())
+        } else {
+            self.pairs.clone()
+        };
+        let (u, v) = self.random.pick_any(&pairs)?;
+        Some(if self.random.chance(50) {
+            (u, v)
+        } else {
+            (v, u)
+        })
+    }
+
+    /// One end goes up, mostly of a channel that is down.
+    fn up(&mut self, tally: &mut Tally) {
+        let Some((u, v)) = self.likely_pair() else {
+            return;
+        };
+        if !self.beside.plot.is_up(u, v) || self.random.chance(15) {
+            self.step(Event::Up { u, v }, tally);
+        }
+    }
+
+    /// One end goes down, mostly of a channel that is up.
+    fn down(&mut self, tally: &mut Tally) {
+        let pairs = ordered_pairs(self.beside.n());
+        let up = of_those(&pairs, |u, v| self.beside.plot.is_up(u, v));
+        let pair = if self.random.chance(90) {
+            self.random.pick_any(&up)
+        } else {
+            self.random.pick_any(&pairs)
+        };
+        if let Some((u, v)) = pair {
+            self.step(Event::Down { u, v }, tally);
+        }
+    }
+
+    /// Both ends of a pair are up.
+    fn link(&mut self, tally: &mut Tally) {
+        if let Some((u, v)) = self.likely_pair() {
+            self.put_end(u, v, true, tally);
+            self.put_end(v, u, true, tally);
+        }
+    }
+
+    /// Both ends of a pair are down.
+    fn unlink(&mut self, tally: &mut Tally) {
+        if let Some((u, v)) = self.likely_pair() {
+            self.put_end(u, v, false, tally);
+            self.put_end(v, u, false, tally);
+        }
+    }
+
+    /// Channel u to v is up, or down, afterwards.
+    fn put_end(&mut self, u: i64, v: i64, up: bool, tally: &mut Tally) {
+        if self.beside.plot.is_up(u, v) != up {
+            let event = if up {
+                Event::Up { u, v }
+            } else {
+                Event::Down { u, v }
+            };
+            self.step(event, tally);
+        }
+    }
+
+    /// Mends what is up at one end only and delivers messages, if may be to quiet.
+    fn settle(&mut self, tally: &mut Tally) {
+        if self.random.chance(80) {
+            self.mend(tally);
+        }
+        self.deliver(400, tally);
+    }
+
+    /// Each channel is up exactly when the one back is, as long as no send is refused.
+    fn mend(&mut self, tally: &mut Tally) {
+        for (u, v) in ordered_pairs(self.beside.n()) {
+            if self.beside.plot.is_up(u, v) != self.beside.plot.is_up(v, u) {
+                let up = self.random.chance(60);
+                self.put_end(u, v, up, tally);
+                self.put_end(v, u, up, tally);
+            }
+        }
+    }
+
+    /// Receives messages until none waits, or this many were tried.
+    fn deliver(&mut self, most: i64, tally: &mut Tally) {
+        for _ in 0..most {
+            let waiting = waiting_pairs(&self.beside.plot);
+            let Some(pair) = self.random.pick_any(&waiting) else {
+                return;
+            };
+            self.step(receipt(pair), tally);
+        }
+    }
+
+    fn wrong(&mut self, tally: &mut Tally) {
+        let event = any_event(self.beside.n(), &mut self.random);
+        self.step(event, tally);
+    }
+
+    fn save(&mut self, tally: &mut Tally) {
+        let image = self.beside.save(&mut self.random, tally);
+        self.kept.push(Kept {
+            image,
+            plot: self.beside.plot.clone(),
+            history: self.beside.history.clone(),
+        });
+    }
+
+    /// "an accepted resume puts back the history as it stood at the last save before it that wrote these bytes."
+    fn resume(&mut self, tally: &mut Tally) {
+        if self.kept.is_empty() {
+            return;
+        }
+        let chosen = self.random.below(self.kept.len());
+        let image = self.kept[chosen].image.clone();
+        let mut latest_first = self.kept.iter().rev();
+        let kept = latest_first.find(|kept| kept.image == image);
+        let kept = kept.expect("the chosen one at least");
+        self.beside.resume(&image, tally);
+        assert_eq!(self.beside.plot, kept.plot, "the plot at the save");
+        self.beside.history = kept.history.clone();
+        self.assert_history_agrees();
+        self.beside.check_quiet(tally);
+    }
+
+    /// "or any bytes that it refuses": the tables stay.
+    fn bad_resume(&mut self, tally: &mut Tally) {
+        let mut bytes = image::write(&self.beside.plot);
+        damage::damage_image(&mut bytes, &self.beside.plot, &mut self.random);
+        let lent = &self.beside.tables;
+        if image::resume(&bytes, lent.nodes.len(), lent.channels.len()).is_err() {
+            compare_restore(&bytes, lent.clone(), tally);
+        }
+    }
+
+    /// "After an accepted resume, for every list of events: each answer, and at the end each clock, set and height and each
+    /// channel's messages in order, equal those that the same events give from the plot at the save."
+    fn there_and_back(&mut self, tally: &mut Tally) {
+        let image = self.beside.save(&mut self.random, tally);
+        let history = self.beside.history.clone();
+        let mut list = Vec::new();
+        for _ in 0..self.random.between(1, 30) {
+            let event = planted_event(&self.beside.plot, &mut self.random);
+            list.push((event, self.beside.step(event, tally)));
+        }
+        let end = self.beside.tables.clone();
+        self.beside.resume(&image, tally);
+        self.beside.history = history;
+        for (event, answer) in list {
+            assert_eq!(self.beside.step(event, tally), answer, "after a resume");
+        }
+        assert_eq!(self.beside.tables, end, "after a resume");
+        self.left -= 10;
+        tally.note("lists repeated after a resume");
+    }
+
+    fn assert_history_agrees(&self) {
+        let agrees = self.beside.history.agrees(&self.beside.plot);
+        assert_eq!(agrees, Ok(()));
+    }
+}

@@ -1,0 +1,114 @@
+//! Refusal 1 and the lengths to lend, in both.
+
+use crate::beside::{
+    Beside, compare_check, compare_restore, compare_save, compare_step, expected_check,
+};
+use crate::ffi;
+use crate::planted;
+use crate::random::Random;
+use crate::rounds::Named;
+use crate::tally::Tally;
+use reference::image;
+use reference::refusal::Refusal;
+use reference::step::Event;
+use reference::tables::{self, Tables};
+
+/// The four lengths for one n; 0 outside 1 to 16.
+pub fn compare_lengths(n: u32) {
+    let wide = i64::from(n);
+    let expected = if tables::is_station_count(wide) {
+        [
+            tables::nodes_len(wide),
+            tables::channels_len(wide),
+            tables::row_len(wide),
+            image::longest(wide),
+        ]
+    } else {
+        [0; 4]
+    };
+    let said = [
+        ffi::nodes_len(n),
+        ffi::channels_len(n),
+        ffi::row_len(n),
+        ffi::image_len(n),
+    ];
+    assert_eq!(said, expected, "lengths for {n}");
+}
+
+/// Tables of one n, sound or a word too long or too short, lent with a right or wrong n.
+pub fn wrong_sizes(seed: u64, tally: &mut Tally) {
+    let _named = Named::new("wrong sizes", seed);
+    let mut random = Random::new(seed);
+    let n = random.between(1, 8);
+    let sound = Beside::planted(planted::sound_plot(n, &mut random)).tables;
+    let far = i64::from(u32::MAX);
+    let counts = [n, n, 0, n - 1, n + 1, 16, 17, 32, 256 + n, 65_536 + n, far];
+    for said in counts {
+        let mut lent = sound.clone();
+        resize(&mut lent.nodes, &mut random);
+        resize(&mut lent.channels, &mut random);
+        compare_check(said, &lent, tally);
+        for (u, v) in [(1, 2), (0, 0)] {
+            compare_step(said, Event::Up { u, v }, &lent, tally);
+            compare_step(said, Event::Down { u, v }, &lent, tally);
+            compare_step(said, Event::Receipt { from: u, to: v }, &lent, tally);
+        }
+        compare_save(said, &lent, image::longest(8), &mut random, tally);
+        compare_restore(&image_of(n, &sound), lent.clone(), tally);
+        compare_fresh(said, lent, tally);
+    }
+}
+
+fn image_of(n: i64, sound: &Tables) -> Vec<u8> {
+    image::save(n, &sound.nodes, &sound.channels, usize::MAX).expect("sound tables")
+}
+
+/// As it is, longer, shorter or empty.
+fn resize(words: &mut Vec<u32>, random: &mut Random) {
+    match random.below(8) {
+        0 => words.push(0),
+        1 => words.truncate(words.len() - 1),
+        2 => words.clear(),
+        3 => words.extend([0; 65]),
+        _ => (),
+    }
+}
+
+/// A fresh plot into any tables: all words, or none.
+fn compare_fresh(n: i64, mut lent: Tables, tally: &mut Tally) {
+    let expected = tables::check_sizes(n, lent.nodes.len(), lent.channels.len());
+    let after = match expected {
+        Ok(()) => tables::store(&reference::plot::Plot::fresh(n)),
+        Err(_) => lent.clone(),
+    };
+    let answer = ffi::fresh(n as u32, &mut lent.nodes, &mut lent.channels);
+    assert_eq!(answer, expected_check(expected), "fresh {n}");
+    assert_eq!(lent, after, "fresh {n}");
+    tally.note(format!(
+        "fresh {}",
+        expected.err().map_or(0, Refusal::number)
+    ));
+}
+
+/// Every room from none to more than the image: 14 exactly when it is below the image's length.
+pub fn small_rooms(seed: u64, tally: &mut Tally) {
+    let _named = Named::new("small rooms", seed);
+    let mut random = Random::new(seed);
+    let n = random.between(1, 16);
+    let lent = Beside::planted(planted::sound_plot(n, &mut random)).tables;
+    let right = image_of(n, &lent).len();
+    let rooms = [
+        0,
+        1,
+        3,
+        4,
+        right / 2,
+        right - 1,
+        right,
+        right + 1,
+        right + 100,
+    ];
+    for room in rooms {
+        compare_save(n, &lent, room, &mut random, tally);
+    }
+}

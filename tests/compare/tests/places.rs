@@ -1,0 +1,36 @@
+//! Saved places beside the reference.
+
+use compare::places::{changed_headers, every_place, places_of_another_n, some_places};
+use compare::rounds::{run, seed};
+use compare::tally::Tally;
+
+/// Every place of images of 1 to 4 stations, for every k: 0 at exactly one place for each station.
+#[test]
+fn every_place_of_small_images() {
+    let seed = seed();
+    for n in 1..=4 {
+        let mut tally = Tally::default();
+        every_place(n, seed, &mut tally);
+        assert_eq!(tally.count("look 0"), n as u64);
+        tally.assert_met(&["look 3", "look 13"]);
+        println!("n = {n}:\n{tally}");
+    }
+}
+
+#[test]
+fn some_places_of_large_images() {
+    let tally = run("some places", some_places, 60);
+    tally.assert_met(&["look 0", "look 3", "look 13"]);
+}
+
+#[test]
+fn places_kept_while_the_header_changes() {
+    let tally = run("changed headers", changed_headers, 500);
+    tally.assert_met(&["look 0", "look 1", "look 3", "look 11", "look 12"]);
+}
+
+#[test]
+fn places_kept_from_another_n() {
+    let tally = run("places of another n", places_of_another_n, 60);
+    tally.assert_met(&["look 0", "look 1", "look 3", "look 13"]);
+}
