@@ -4,7 +4,7 @@
 # A line for each step; the last line says how many passed; exit code 0 only if all did.
 set -euo pipefail
 cd "$(dirname "$0")/.."
-export PATH="$PATH:${HOME:-/root}/.cargo/bin:/root/.cargo/bin"
+export PATH="$PATH:${HOME:-}/.cargo/bin"
 log=$(mktemp -d)
 trap 'rm -rf "$log"' EXIT
 passed=0

@@ -69,10 +69,12 @@ same-length-3 c = search needs
 -- src/events.rt:12:1
 returns : tie.Need-returns
 returns c =
+    let b12 = c .before .before .before .before .before .before .before .before .before .before .before .before in
+    let b14 = b12 .before .before in
     let e = c .before .before .before .before .before .before .before .before in
     let x = c .before .before .put-answer .ensures in
-    let p = c .before .before .before .before .before .before .before .before .before .before .before .before .before .before .parse .ensures in
-    line-done (told-up _ _ _ _ p (c .before .before .before .before .before .before .before .before .before .before .before .before .u .given .1) (e .up .ensures)) (both (x .0) (x .1)) (x .2)
+    let p = b14 .parse .ensures in
+    line-done (told-up _ _ _ _ p (b12 .u .given .1) (e .up .ensures)) (both (x .0) (x .1)) (x .2)
 
 -- src/events.rt:12:1
 same-length-4 : tie.Need-same-length-4
@@ -89,10 +91,12 @@ same-length-6 c = search needs
 -- src/events.rt:12:1
 returns-2 : tie.Need-returns-2
 returns-2 c =
+    let b12 = c .before .before .before .before .before .before .before .before .before .before .before .before in
+    let b14 = b12 .before .before in
     let e = c .before .before .before .before .before .before .before .before in
     let x = c .before .before .put-answer2 .ensures in
-    let p = c .before .before .before .before .before .before .before .before .before .before .before .before .before .before .parse .ensures in
-    line-done (told-down _ _ _ _ p (c .before .before .before .before .before .before .before .before .before .before .before .before .u2 .given .1) (e .down .ensures)) (both (x .0) (x .1)) (x .2)
+    let p = b14 .parse .ensures in
+    line-done (told-down _ _ _ _ p (b12 .u2 .given .1) (e .down .ensures)) (both (x .0) (x .1)) (x .2)
 
 -- src/events.rt:12:1
 same-length-7 : tie.Need-same-length-7
@@ -109,10 +113,12 @@ same-length-9 c = search needs
 -- src/events.rt:12:1
 returns-3 : tie.Need-returns-3
 returns-3 c =
+    let b12 = c .before .before .before .before .before .before .before .before .before .before .before .before in
+    let b14 = b12 .before .before in
     let e = c .before .before .before .before .before .before .before .before in
     let x = c .before .before .put-answer3 .ensures in
-    let p = c .before .before .before .before .before .before .before .before .before .before .before .before .before .before .parse .ensures in
-    line-done (told-receive _ _ _ _ p (c .before .before .before .before .before .before .before .before .before .before .before .before .u3 .given .1) (e .receive .ensures)) (both (x .0) (x .1)) (x .2)
+    let p = b14 .parse .ensures in
+    line-done (told-receive _ _ _ _ p (b12 .u3 .given .1) (e .receive .ensures)) (both (x .0) (x .1)) (x .2)
 
 -- src/events.rt:12:1
 same-length-10 : tie.Need-same-length-10

@@ -52,7 +52,11 @@ add-start c = search needs
 
 -- src/events.rt:65:9
 add-k : tie.Need-add-k Inv-loop μ-loop
-add-k c = let l = c .before .before .before .before .before .before .before .before .before .before .before .before .before .loop in omega (arith, l .inv .0 .few, c .before .before .before .before .before .before .before .before .before .before .before .before .before .before .before .before .before .before .pre .1)
+add-k c =
+    let b12 = c .before .before .before .before .before .before .before .before .before .before .before .before in
+    let b13 = b12 .before in
+    let b18 = b13 .before .before .before .before .before in
+    let l = b13 .loop in omega (arith, l .inv .0 .few, b18 .pre .1)
 
 -- src/events.rt:61:5
 loop-less : tie.Need-loop-less Inv-loop μ-loop
@@ -61,10 +65,13 @@ loop-less c = omega arith
 -- src/events.rt:61:5
 loop-again : tie.Need-loop-again Inv-loop μ-loop
 loop-again c =
-    let l = c .before .before .before .before .before .before .before .before .before .before .before .before .before .loop in
-    let end = c .before .before .before .before .before .before .before .before .before .before .before .line-end .ensures in
+    let b11 = c .before .before .before .before .before .before .before .before .before .before .before in
+    let b12 = b11 .before in
+    let b13 = b12 .before in
+    let l = b13 .loop in
+    let end = b11 .line-end .ensures in
     let x = c .before .before .before .before .before .before .line .ensures in (
-      run-next _ _ _ _ _ _ _ _ (l .start) (l .k) (l .place) (l .inv .0) (c .before .before .before .before .before .before .before .before .before .before .before .before .loop-test .taken) _ (end .0) (end .1) _ refl _ _ _ (both (x .0) (x .1)) (x .2) (x .3),
+      run-next _ _ _ _ _ _ _ _ (l .start) (l .k) (l .place) (l .inv .0) (b12 .loop-test .taken) _ (end .0) (end .1) _ refl _ _ _ (both (x .0) (x .1)) (x .2) (x .3),
       c .before .before .before .before .before .nodes .given ∙ l .inv .1,
       c .before .before .before .channels .given ∙ l .inv .2,
     )

@@ -27,9 +27,13 @@ put-station-head-requires c κs = search needs
 -- src/plot.rt:40:5
 stations-requires : tie.Need-stations-requires
 stations-requires c κs =
-    let s = c .before .before .before .before .before .before .before .before .before .before .before .before .before .before .before .before .before .before .before .before .before .before .before .before .before .before .before .before .before .before .before in
-    let wide = c .before .before .before .before .before .before .before .before .before .before .before .nodes2 .given ∙ (c .before .before .before .before .before .before .before .before .before .before .before .before .before .before .before .before .before .before .before .before .before .before .before .nodes .given ∙ s .pre .0 .nodes) in
-    (s .pre .0 .few, wide, omega (arith, c .before .before .before .before .put-station-head .ensures .1, c .before .before .before .before .before .before .before .before .before .before .before .before .lines .ensures .2))
+    let b11 = c .before .before .before .before .before .before .before .before .before .before .before in
+    let b12 = b11 .before in
+    let b23 = b12 .before .before .before .before .before .before .before .before .before .before .before in
+    let b31 = b23 .before .before .before .before .before .before .before .before in
+    let s = b31 in
+    let wide = b11 .nodes2 .given ∙ (b23 .nodes .given ∙ s .pre .0 .nodes) in
+    (s .pre .0 .few, wide, omega (arith, c .before .before .before .before .put-station-head .ensures .1, b12 .lines .ensures .2))
 
 -- src/plot.rt:24:1
 same-length : tie.Need-same-length
@@ -46,10 +50,15 @@ same-length-3 c = search needs
 -- src/plot.rt:24:1
 returns : tie.Need-returns
 returns c =
-    let s = c .before .before .before .before .before .before .before .before .before .before .before .before .before .before .before .before .before .before .before .before .before .before .before .before .before .before .before .before .before .before .before .before .before .before in
-    let start = made-fresh _ _ (s .pre .0) (c .before .before .before .before .before .before .before .before .before .before .before .before .before .before .before .before .before .before .before .before .before .before .before .before .before .before .before .fresh .ensures) in
-    let a = c .before .before .before .before .before .before .before .before .before .before .before .before .before .before .before .before .before .before .before .before .before .put-event-head .ensures in
-    let e = c .before .before .before .before .before .before .before .before .before .before .before .before .before .before .before .lines .ensures in
+    let b12 = c .before .before .before .before .before .before .before .before .before .before .before .before in
+    let b15 = b12 .before .before .before in
+    let b21 = b15 .before .before .before .before .before .before in
+    let b27 = b21 .before .before .before .before .before .before in
+    let b34 = b27 .before .before .before .before .before .before .before in
+    let s = b34 in
+    let start = made-fresh _ _ (s .pre .0) (b27 .fresh .ensures) in
+    let a = b21 .put-event-head .ensures in
+    let e = b15 .lines .ensures in
     let h = c .before .before .before .before .before .before .before .put-station-head .ensures in
     let t = c .before .before .stations .ensures in
     plot-done _ (s .pre .0 .low) (s .pre .0 .few) _ start (both (a .0) (a .1)) (both (e .0) (e .1)) (both (h .0) (h .1)) _ _ (e .3) (both (t .0) (t .1))

@@ -29,7 +29,8 @@ same-length c = search needs
 -- src/stations.rt:12:1
 returns : tie.Need-returns
 returns c =
-    let s = c .before .before .before .before .before .before .before .before .before in
+    let b9 = c .before .before .before .before .before .before .before .before .before in
+    let s = b9 in
     let e = c .before .before .put-station .ensures in
     let line = station-line (s .args .n) (s .args .u) (s .args .nodes .now) (c .before .before .before .before .before .before .node .ensures .0) (c .before .before .before .before .before .height-in .ensures .0) (c .before .before .before .clock .ensures) in
     finish (both (e .0) (e .1)) line 33 (line-le (s .args .n) (s .args .nodes .now) (s .args .u))
