@@ -1,0 +1,332 @@
+//! The self-check: the library and the plain version must answer alike and leave the same words and bytes.
+
+use crate::plots::Tables;
+use crate::{abi, plain};
+use std::fmt::Debug;
+
+/// Numbers that look random, always the same ones for a seed.
+pub struct Random(u64);
+
+impl Random {
+    pub fn new(seed: u64) -> Random {
+        Random(seed.wrapping_mul(0x9E37_79B9_7F4A_7C15) | 1)
+    }
+
+    fn next(&mut self) -> u64 {
+        self.0 ^= self.0 << 13;
+        self.0 ^= self.0 >> 7;
+        self.0 ^= self.0 << 17;
+        self.0.wrapping_mul(0x2545_F491_4F6C_DD1D) >> 16
+    }
+
+    /// From 0 to below the end.
+    fn below(&mut self, end: usize) -> usize {
+        (self.next() % end as u64) as usize
+    }
+
+    /// Once in so many times.
+    fn once_in(&mut self, times: usize) -> bool {
+        self.below(times) == 0
+    }
+
+    /// A word that is likely to be near an end of some range.
+    fn word(&mut self) -> u32 {
+        let near = self.below(20) as u32;
+        match self.below(8) {
+            0 => u32::MAX - near,
+            1 => 32_750 + near,
+            2 => 32_760u32.wrapping_neg().wrapping_sub(near),
+            3 => self.next() as u32,
+            4 => 1 << self.below(32),
+            _ => near,
+        }
+    }
+}
+
+/// What was seen: how many calls, and each returned number and rule.
+#[derive(Default)]
+pub struct Seen {
+    pub calls: usize,
+    pub numbers: [usize; 16],
+    pub rules: Vec<(char, usize)>,
+}
+
+impl Seen {
+    fn number(&mut self, number: u32) {
+        self.calls += 1;
+        self.numbers[number as usize] += 1;
+    }
+
+    fn rule(&mut self, rule: u32) {
+        let letter = char::from(rule as u8);
+        match self.rules.iter_mut().find(|(seen, _)| *seen == letter) {
+            Some((_, times)) => *times += 1,
+            None => self.rules.push((letter, 1)),
+        }
+    }
+
+    /// Numbers 0 to 14, all nine rules and a refusal occurred.
+    pub fn is_whole(&self) -> bool {
+        self.numbers[..15].iter().all(|&times| times > 0) && self.rules.len() == 10
+    }
+
+    /// One line on what was seen.
+    pub fn line(&self) -> String {
+        let counted = self.numbers.iter().enumerate().filter(|(_, &n)| n > 0);
+        let numbers: Vec<String> = counted.map(|(k, n)| format!("{k}: {n}")).collect();
+        let mut rules = self.rules.clone();
+        rules.sort();
+        let rules: Vec<String> = rules.iter().map(|(r, n)| format!("{r}: {n}")).collect();
+        format!(
+            "self-check: {} calls alike; numbers {}; rules {}",
+            self.calls,
+            numbers.join(", "),
+            rules.join(", ")
+        )
+    }
+}
+
+/// Stops the program if the two differ.
+fn same<T: PartialEq + Debug>(what: impl FnOnce() -> String, library: &T, plain: &T) {
+    if library != plain {
+        eprintln!("{}\n  library: {library:?}\n  plain:   {plain:?}", what());
+        std::process::abort();
+    }
+}
+
+/// Compares both on random histories of so many calls, for each n and seed.
+pub fn run(seeds: u64, calls: usize) -> Seen {
+    let mut seen = Seen::default();
+    for n in [1, 2, 3, 4, 8, 16] {
+        for seed in 0..seeds {
+            history(
+                n,
+                calls,
+                &mut Random::new(seed * 100 + u64::from(n)),
+                &mut seen,
+            );
+        }
+    }
+    seen
+}
+
+/// One history, from the fresh plot or from one that is linked and has some messages.
+fn history(n: u32, calls: usize, random: &mut Random, seen: &mut Seen) {
+    let mut tables = match random.below(4) {
+        0 => Tables::linked(n, random.below(9) as u32),
+        1 => Tables::linked(n, 8),
+        _ => Tables::fresh(n),
+    };
+    for call in 0..calls {
+        if random.once_in(50) {
+            disturb(&mut tables, random);
+        }
+        event(&mut tables, random, seen);
+        if call % 16 == 0 {
+            images(&tables, random, seen);
+            damaged_tables(&tables, random, seen);
+        }
+    }
+}
+
+/// Changes sound tables to other sound ones, so that rare rules and refusals occur.
+fn disturb(tables: &mut Tables, random: &mut Random) {
+    let n = tables.n as usize;
+    match random.below(8) {
+        0 => tables.row(1 + random.below(n) as u32)[0] = u32::MAX - random.below(4) as u32,
+        1 => every_height(tables, |height| height[3] = -32_768i32 as u32),
+        2 => every_height(tables, |height| height[3] = 32_767),
+        3 => (1..=n as u32).for_each(|u| tables.row(u)[0] = 10),
+        _ => every_height(tables, |height| scramble(n, height, random)),
+    }
+}
+
+/// Changes every height that is held or sent.
+fn every_height(tables: &mut Tables, change: impl FnMut(&mut [u32])) {
+    let row = 3 + 7 * tables.n as usize;
+    let rows = tables.nodes.chunks_exact_mut(row);
+    let held = rows.flat_map(|row| row[3..].chunks_exact_mut(7));
+    let cells = tables.channels.chunks_exact_mut(65);
+    let sent = cells.flat_map(|cell| cell[1..].chunks_exact_mut(8));
+    let there = held.chain(sent).filter(|height| height[6] != 0);
+    there.for_each(change);
+}
+
+/// A level, depth and leader pair out of few.
+fn scramble(n: usize, height: &mut [u32], random: &mut Random) {
+    let searching = random.below(4) > 0;
+    if searching {
+        height[0] = 5;
+        height[1] = 1 + random.below(n.min(2)) as u32;
+        height[2] = random.below(2) as u32;
+    } else {
+        height[..3].fill(0);
+    }
+    height[3] = (random.below(4) as u32).wrapping_sub(2);
+    height[4] = u32::from(random.once_in(n));
+    height[5] = 1 + u32::from(n > 1 && random.once_in(n));
+}
+
+/// One event on both sides.
+fn event(tables: &mut Tables, random: &mut Random, seen: &mut Seen) {
+    let n = tables.n;
+    let (kind, u, v) = choose(tables, random);
+    let before = tables.clone();
+    let mut other = tables.clone();
+    let (library, plain) = match kind {
+        0 => (abi::up as Event, plain::up as Event),
+        1 => (abi::down as Event, plain::down as Event),
+        _ => (abi::receive as Event, plain::receive as Event),
+    };
+    let ours = library(n, u, v, &mut tables.nodes, &mut tables.channels);
+    let theirs = plain(n, u, v, &mut other.nodes, &mut other.channels);
+    let what = || format!("event {kind} of {u} {v} on {before:?}");
+    same(what, &ours, &theirs);
+    same(what, tables, &other);
+    seen.number(ours.number);
+    seen.rule(ours.rule);
+}
+
+type Event = fn(u32, u32, u32, &mut [u32], &mut [u32]) -> abi::Answer;
+
+/// An event that is mostly possible: 0 up, 1 down, 2 receipt.
+fn choose(tables: &mut Tables, random: &mut Random) -> (usize, u32, u32) {
+    let n = tables.n as usize;
+    let past = usize::from(random.once_in(20));
+    let mut u = (1 - past + random.below(n + 2 * past)) as u32;
+    let mut v = (1 - past + random.below(n + 2 * past)) as u32;
+    let kind = match random.below(20) {
+        0..5 => 0,
+        5 => 1,
+        _ => 2,
+    };
+    let full: Vec<usize> = (0..n * n)
+        .filter(|&k| tables.channels[65 * k] > 0)
+        .collect();
+    if kind == 2 && past == 0 && !full.is_empty() {
+        let k = full[random.below(full.len())];
+        (u, v) = ((k / n + 1) as u32, (k % n + 1) as u32);
+    }
+    (kind, u, v)
+}
+
+/// Save, resume and look, whole and with the image damaged.
+fn images(tables: &Tables, random: &mut Random, seen: &mut Seen) {
+    let image = tables.image();
+    let room = match random.below(4) {
+        0 => random.below(image.len() + 1),
+        1 => image.len(),
+        2 => image.len() - 1,
+        _ => image.len() + random.below(50),
+    };
+    save(tables, room, seen);
+    restore(tables.n, &image, random, seen);
+    look(tables.n, &image, random, seen);
+    for _ in 0..4 {
+        let mut image = image.clone();
+        damage(&mut image, random);
+        restore(tables.n, &image, random, seen);
+        look(tables.n, &image, random, seen);
+    }
+}
+
+/// A save into so much room, with marked bytes in it.
+fn save(tables: &Tables, room: usize, seen: &mut Seen) {
+    let (n, nodes, channels) = (tables.n, &tables.nodes, &tables.channels);
+    let (mut ours, mut theirs) = (vec![0xA5; room], vec![0xA5; room]);
+    let library = abi::save(n, nodes, channels, &mut ours);
+    let plain = plain::save(n, nodes, channels, &mut theirs);
+    let what = || format!("save into {room} of {tables:?}");
+    same(what, &library, &plain);
+    same(what, &ours, &theirs);
+    seen.number(library.number);
+}
+
+/// Bits flipped, bytes lost or bytes added.
+fn damage(image: &mut Vec<u8>, random: &mut Random) {
+    let len = image.len();
+    match random.below(6) {
+        0 => image.truncate(random.below(len)),
+        1 => image.extend((0..1 + random.below(20)).map(|_| random.next() as u8)),
+        2 => image[random.below(4)] ^= 1 << random.below(8),
+        _ => {
+            let from = if random.once_in(2) { 0 } else { len / 2 };
+            image[from + random.below(len - from)] ^= 1 << random.below(8);
+        }
+    }
+}
+
+/// A resume into tables that held other words, now and then of a wrong length.
+fn restore(n: u32, image: &[u8], random: &mut Random, seen: &mut Seen) {
+    let wrong = usize::from(random.once_in(30));
+    let mut ours = Tables {
+        n,
+        nodes: vec![7; abi::nodes_len(n) + wrong],
+        channels: vec![7; abi::channels_len(n)],
+    };
+    let mut theirs = ours.clone();
+    let library = abi::restore(image, &mut ours.nodes, &mut ours.channels);
+    let plain = plain::restore(image, &mut theirs.nodes, &mut theirs.channels);
+    let what = || format!("resume for {n} (lengths off by {wrong}) of {image:?}");
+    same(what, &library, &plain);
+    same(what, &ours, &theirs);
+    seen.number(library.number);
+}
+
+/// A look at a station, now and then at a wrong place, past n or with a wrong row.
+fn look(n: u32, image: &[u8], random: &mut Random, seen: &mut Seen) {
+    let k = random.below(n as usize + 2) as u32;
+    let step = u64::from(64 + 96 * n);
+    let right = 32 + u64::from(k).wrapping_sub(1).wrapping_mul(step);
+    let place = match random.below(8) {
+        0 => right.wrapping_add(1),
+        1 => right.wrapping_sub(step),
+        2 => random.next(),
+        _ => right,
+    };
+    let wrong = usize::from(random.once_in(30));
+    let (mut ours, mut theirs) = (
+        vec![7; abi::row_len(n) + wrong],
+        vec![7; abi::row_len(n) + wrong],
+    );
+    let library = abi::read_node(image, k, place, &mut ours);
+    let plain = plain::read_node(image, k, place, &mut theirs);
+    let what = || format!("look at {k}, place {place}, row off by {wrong}, of {image:?}");
+    same(what, &library, &plain);
+    same(what, &ours, &theirs);
+    seen.number(library.number);
+}
+
+/// A check, a step and a save of tables with some words changed, or of a wrong length or n.
+fn damaged_tables(tables: &Tables, random: &mut Random, seen: &mut Seen) {
+    for _ in 0..4 {
+        let mut tables = tables.clone();
+        let table = match random.below(2) {
+            0 => &mut tables.nodes,
+            _ => &mut tables.channels,
+        };
+        for _ in 0..1 + random.below(3) {
+            let k = random.below(table.len());
+            table[k] = random.word();
+        }
+        if random.once_in(20) {
+            table.truncate(random.below(table.len()));
+        }
+        if random.once_in(20) {
+            tables.n = random.word();
+        }
+        check(&tables, seen);
+        let room = random.below(3000);
+        save(&tables, room, seen);
+        if tables.n.wrapping_sub(1) < 16 && tables.channels.len() >= abi::channels_len(tables.n) {
+            event(&mut tables, random, seen);
+        }
+    }
+}
+
+fn check(tables: &Tables, seen: &mut Seen) {
+    let library = abi::check(tables.n, &tables.nodes, &tables.channels);
+    let plain = plain::check(tables.n, &tables.nodes, &tables.channels);
+    same(|| format!("check of {tables:?}"), &library, &plain);
+    seen.number(library.number);
+}
