@@ -101,7 +101,11 @@ impl Beside {
         assert_eq!(quiet::settled(&lent), Ok(()), "demand 3: {lent:?}");
         tally.note("quiet networks");
         for group in quiet::groups(&lent) {
-            let size = if group.len() == 1 { "one" } else { "more" };
+            let size = match group.len() {
+                1 => "one",
+                2..=4 => "2 to 4",
+                _ => "5 to 16",
+            };
             tally.note(format!("quiet groups of {size}"));
         }
     }

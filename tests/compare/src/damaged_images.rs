@@ -4,7 +4,6 @@ use crate::beside::{compare_look, compare_restore, junk_tables};
 use crate::damage;
 use crate::planted;
 use crate::random::Random;
-use crate::rounds::Named;
 use crate::tally::Tally;
 use reference::image;
 use reference::plot::Plot;
@@ -12,7 +11,6 @@ use reference::tables;
 
 /// Damages the images of two plots in several ways, each from the sound ones.
 pub fn damaged_images(seed: u64, tally: &mut Tally) {
-    let _named = Named::new("damaged images", seed);
     let mut random = Random::new(seed);
     let n = random.between(1, 16);
     let one = any_plot(n, &mut random);

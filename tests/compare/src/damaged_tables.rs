@@ -5,13 +5,11 @@ use crate::damage;
 use crate::histories::{any_event, planted_event};
 use crate::planted;
 use crate::random::Random;
-use crate::rounds::Named;
 use crate::tally::Tally;
 use reference::image;
 
 /// Damages the tables of one plot in several ways, each from the sound ones.
 pub fn damaged_tables(seed: u64, tally: &mut Tally) {
-    let _named = Named::new("damaged tables", seed);
     let mut random = Random::new(seed);
     let n = random.between(1, 16);
     let sound = if random.chance(20) {

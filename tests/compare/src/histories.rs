@@ -4,7 +4,6 @@ use crate::beside::{Beside, compare_restore};
 use crate::damage;
 use crate::planted;
 use crate::random::Random;
-use crate::rounds::Named;
 use crate::tally::Tally;
 use reference::history::History;
 use reference::image;
@@ -70,7 +69,6 @@ struct Run {
 /// One history from the fresh plot of any n. Demand 3 is checked whenever the network is quiet, and at the end the channels are
 /// those that the history tells.
 pub fn fresh_history(seed: u64, tally: &mut Tally) {
-    let _named = Named::new("fresh history", seed);
     let mut random = Random::new(seed);
     let n = random.between(1, 16);
     let beside = Beside::fresh(n, &mut random);
@@ -92,7 +90,6 @@ pub fn fresh_history(seed: u64, tally: &mut Tally) {
 
 /// One short history from a planted plot: no demand 3, but the ends of clocks, depths and channels.
 pub fn planted_history(seed: u64, tally: &mut Tally) {
-    let _named = Named::new("planted history", seed);
     let mut random = Random::new(seed);
     let n = random.between(1, 16);
     let plot = planted::sound_plot(n, &mut random);
@@ -327,17 +324,22 @@ impl Run {
         });
     }
 
-    /// "an accepted resume puts back the history as it stood at the last save before it that wrote these bytes."
+    /// Resumes any image that was saved.
     fn resume(&mut self, tally: &mut Tally) {
         if self.kept.is_empty() {
             return;
         }
         let chosen = self.random.below(self.kept.len());
-        let image = self.kept[chosen].image.clone();
-        let mut latest_first = self.kept.iter().rev();
-        let kept = latest_first.find(|kept| kept.image == image);
-        let kept = kept.expect("the chosen one at least");
-        self.beside.resume(&image, tally);
+        let same_bytes = |kept: &Kept| kept.image == self.kept[chosen].image;
+        let last = self.kept.iter().rposition(same_bytes);
+        self.resume_kept(last.expect("the chosen one at least"), tally);
+    }
+
+    /// "an accepted resume puts back the history as it stood at the last save before it that wrote these bytes." `last` is that
+    /// save.
+    fn resume_kept(&mut self, last: usize, tally: &mut Tally) {
+        let kept = &self.kept[last];
+        self.beside.resume(&kept.image, tally);
         assert_eq!(self.beside.plot, kept.plot, "the plot at the save");
         self.beside.history = kept.history.clone();
         self.assert_history_agrees();
@@ -357,16 +359,15 @@ impl Run {
     /// "After an accepted resume, for every list of events: each answer, and at the end each clock, set and height and each
     /// channel's messages in order, equal those that the same events give from the plot at the save."
     fn there_and_back(&mut self, tally: &mut Tally) {
-        let image = self.beside.save(&mut self.random, tally);
-        let history = self.beside.history.clone();
+        self.save(tally);
+        let last = self.kept.len() - 1;
         let mut list = Vec::new();
         for _ in 0..self.random.between(1, 30) {
             let event = planted_event(&self.beside.plot, &mut self.random);
             list.push((event, self.beside.step(event, tally)));
         }
         let end = self.beside.tables.clone();
-        self.beside.resume(&image, tally);
-        self.beside.history = history;
+        self.resume_kept(last, tally);
         for (event, answer) in list {
             assert_eq!(self.beside.step(event, tally), answer, "after a resume");
         }

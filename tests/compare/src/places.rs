@@ -4,7 +4,6 @@ use crate::beside::compare_look;
 use crate::damage;
 use crate::planted;
 use crate::random::Random;
-use crate::rounds::Named;
 use crate::tally::Tally;
 use reference::image;
 use reference::plot::Plot;
@@ -12,7 +11,6 @@ use reference::tables;
 
 /// Every place of the image of a plot of n stations, for every k, and some numbers far behind.
 pub fn every_place(n: i64, seed: u64, tally: &mut Tally) {
-    let _named = Named::new("every place", seed);
     let mut random = Random::new(seed);
     let plot = few_messages(n, &mut random);
     let bytes = image::write(&plot);
@@ -51,7 +49,6 @@ fn look(bytes: &[u8], k: i64, place: u64, n: i64, random: &mut Random, tally: &m
 
 /// Some places of an image of any n, and the right place of every station.
 pub fn some_places(seed: u64, tally: &mut Tally) {
-    let _named = Named::new("some places", seed);
     let mut random = Random::new(seed);
     let n = random.between(5, 16);
     let bytes = image::write(&few_messages(n, &mut random));
@@ -69,7 +66,6 @@ pub fn some_places(seed: u64, tally: &mut Tally) {
 
 /// A place is saved, then the header changes: length, n and version, each alone and together; then it is read at that place.
 pub fn changed_headers(seed: u64, tally: &mut Tally) {
-    let _named = Named::new("changed headers", seed);
     let mut random = Random::new(seed);
     let n = random.between(1, 8);
     let plot = if random.chance(30) {
@@ -121,7 +117,6 @@ fn cut_to_one_station(bytes: &[u8], random: &mut Random, tally: &mut Tally) {
 
 /// Places saved from one n, used on an image of another n.
 pub fn places_of_another_n(seed: u64, tally: &mut Tally) {
-    let _named = Named::new("places of another n", seed);
     let mut random = Random::new(seed);
     let n = random.between(1, 12);
     let bytes = image::write(&few_messages(n, &mut random));
@@ -132,4 +127,9 @@ pub fn places_of_another_n(seed: u64, tally: &mut Tally) {
             look(&bytes, k, place, other, &mut random, tally);
         }
     }
+}
+
+/// Every place of one image of 1 to 3 stations.
+pub fn every_place_of_few(seed: u64, tally: &mut Tally) {
+    every_place(1 + (seed % 3) as i64, seed, tally);
 }

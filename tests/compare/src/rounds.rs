@@ -1,52 +1,47 @@
-//! Running rounds: so many of one kind for a test, any of them for the soak.
+//! Running rounds: so many of one kind for a test, all kinds in turn for the soak, or a single one.
 
 use crate::random::Random;
 use crate::tally::Tally;
 use crate::{damaged_images, damaged_tables, histories, places, sizes};
 
-/// One kind of round.
-pub type Round = fn(u64, &mut Tally);
+/// A kind of round.
+pub struct Kind {
+    pub name: &'static str,
+    pub round: fn(u64, &mut Tally),
+    /// How many of them the soak runs in each of its laps.
+    pub in_a_lap: usize,
+}
+
+const fn kind(name: &'static str, round: fn(u64, &mut Tally), in_a_lap: usize) -> Kind {
+    Kind {
+        name,
+        round,
+        in_a_lap,
+    }
+}
+
+/// All kinds of rounds.
+pub const KINDS: [Kind; 10] = [
+    kind("fresh history", histories::fresh_history, 20),
+    kind("planted history", histories::planted_history, 40),
+    kind("damaged tables", damaged_tables::damaged_tables, 20),
+    kind("damaged images", damaged_images::damaged_images, 10),
+    kind("wrong sizes", sizes::wrong_sizes, 2),
+    kind("small rooms", sizes::small_rooms, 2),
+    kind("every place", places::every_place_of_few, 1),
+    kind("some places", places::some_places, 2),
+    kind("changed headers", places::changed_headers, 5),
+    kind("places of another n", places::places_of_another_n, 2),
+];
+
+/// The kind with this name.
+pub fn named(name: &str) -> &'static Kind {
+    let found = KINDS.iter().find(|kind| kind.name == name);
+    found.expect("the name of a kind of rounds")
+}
 
 /// The seed of the tests, unless the environment variable SEED gives another.
 const DEFAULT_SEED: u64 = 20_260_101;
-
-/// Every kind of round, for the soak.
-pub const ALL: [(&str, Round); 10] = [
-    ("fresh histories", histories::fresh_history),
-    ("planted histories", histories::planted_history),
-    ("damaged tables", damaged_tables::damaged_tables),
-    ("damaged images", damaged_images::damaged_images),
-    ("wrong sizes", sizes::wrong_sizes),
-    ("small rooms", sizes::small_rooms),
-    ("every place", every_place_of_few),
-    ("some places", places::some_places),
-    ("changed headers", places::changed_headers),
-    ("places of another n", places::places_of_another_n),
-];
-
-fn every_place_of_few(seed: u64, tally: &mut Tally) {
-    places::every_place(1 + (seed % 3) as i64, seed, tally);
-}
-
-/// Says which round it was when a comparison fails, so that it can be run alone.
-pub struct Named {
-    name: &'static str,
-    seed: u64,
-}
-
-impl Named {
-    pub fn new(name: &'static str, seed: u64) -> Named {
-        Named { name, seed }
-    }
-}
-
-impl Drop for Named {
-    fn drop(&mut self) {
-        if std::thread::panicking() {
-            eprintln!("in the round \"{}\" with its seed {}", self.name, self.seed);
-        }
-    }
-}
 
 /// The seed of this run of the tests; it is printed.
 pub fn seed() -> u64 {
@@ -59,12 +54,36 @@ pub fn seed() -> u64 {
 }
 
 /// So many rounds of one kind from the seed of this run. The counts are printed.
-pub fn run(name: &str, round: Round, count: usize) -> Tally {
+pub fn run(name: &str, count: usize) -> Tally {
+    let kind = named(name);
     let mut random = Random::new(seed());
     let mut tally = Tally::default();
     for _ in 0..count {
-        round(random.next(), &mut tally);
+        one(kind, random.any(), &mut tally);
     }
     println!("{name}, {count} rounds:\n{tally}");
     tally
+}
+
+/// One round. If it panics, its name and its own seed are printed.
+pub fn one(kind: &Kind, seed: u64, tally: &mut Tally) {
+    let _on_panic = OnPanic {
+        name: kind.name,
+        seed,
+    };
+    (kind.round)(seed, tally);
+}
+
+/// Tells how to run a round alone when a comparison in it fails.
+struct OnPanic {
+    name: &'static str,
+    seed: u64,
+}
+
+impl Drop for OnPanic {
+    fn drop(&mut self) {
+        if std::thread::panicking() {
+            eprintln!("this round alone: soak \"{}\" {}", self.name, self.seed);
+        }
+    }
 }

@@ -6,7 +6,6 @@ use crate::beside::{
 use crate::ffi;
 use crate::planted;
 use crate::random::Random;
-use crate::rounds::Named;
 use crate::tally::Tally;
 use reference::image;
 use reference::refusal::Refusal;
@@ -37,7 +36,6 @@ pub fn compare_lengths(n: u32) {
 
 /// Tables of one n, sound or a word too long or too short, lent with a right or wrong n.
 pub fn wrong_sizes(seed: u64, tally: &mut Tally) {
-    let _named = Named::new("wrong sizes", seed);
     let mut random = Random::new(seed);
     let n = random.between(1, 8);
     let sound = Beside::planted(planted::sound_plot(n, &mut random)).tables;
@@ -92,7 +90,6 @@ fn compare_fresh(n: i64, mut lent: Tables, tally: &mut Tally) {
 
 /// Every room from none to more than the image: 14 exactly when it is below the image's length.
 pub fn small_rooms(seed: u64, tally: &mut Tally) {
-    let _named = Named::new("small rooms", seed);
     let mut random = Random::new(seed);
     let n = random.between(1, 16);
     let lent = Beside::planted(planted::sound_plot(n, &mut random)).tables;

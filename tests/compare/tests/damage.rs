@@ -1,13 +1,11 @@
 //! Damaged tables and images beside the reference: the same number with the same pair, and nothing lent changed.
 
-use compare::damaged_images::damaged_images;
-use compare::damaged_tables::damaged_tables;
 use compare::rounds::run;
-use compare::sizes::{compare_lengths, small_rooms, wrong_sizes};
+use compare::sizes::compare_lengths;
 
 #[test]
 fn tables() {
-    let tally = run("damaged tables", damaged_tables, 1500);
+    let tally = run("damaged tables", 2000);
     tally.assert_met(&[
         "check 0",
         "check 2",
@@ -21,7 +19,7 @@ fn tables() {
 
 #[test]
 fn images() {
-    let tally = run("damaged images", damaged_images, 600);
+    let tally = run("damaged images", 1000);
     tally.assert_met(&["restore 0", "restore 1", "restore 2"]);
     tally.assert_met(&["restore 10", "restore 11", "restore 12"]);
     tally.assert_met(&["look 0", "look 1", "look 2", "look 3"]);
@@ -33,7 +31,7 @@ fn sizes() {
     for n in (0..300).chain([65_536, 65_537, 1 << 31, u32::MAX - 1, u32::MAX]) {
         compare_lengths(n);
     }
-    let tally = run("wrong sizes", wrong_sizes, 300);
+    let tally = run("wrong sizes", 300);
     tally.assert_met(&["check 0", "check 1", "up 1", "down 1", "receipt 1"]);
     tally.assert_met(&["save 0", "save 1", "restore 0", "restore 1"]);
     tally.assert_met(&["fresh 0", "fresh 1"]);
@@ -41,6 +39,6 @@ fn sizes() {
 
 #[test]
 fn rooms() {
-    let tally = run("small rooms", small_rooms, 100);
+    let tally = run("small rooms", 100);
     tally.assert_met(&["save 0", "save 14"]);
 }

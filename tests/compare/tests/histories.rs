@@ -1,7 +1,6 @@
 //! Random histories beside the reference: after every event every answer field and every table word.
 
 use compare::beside::Beside;
-use compare::histories::{fresh_history, planted_history};
 use compare::rounds::run;
 use compare::tally::Tally;
 use reference::plot::{Height, Plot};
@@ -26,7 +25,7 @@ const RULES: [&str; 12] = [
 /// From the fresh plots of 1 to 16 stations, with saves and resumes between, and demand 3 on every quiet network met.
 #[test]
 fn fresh_histories() {
-    let tally = run("fresh histories", fresh_history, 600);
+    let tally = run("fresh history", 800);
     tally.assert_met(&RULES);
     tally.assert_met(&["up 3", "down 3", "receipt 3"]);
     tally.assert_met(&["up 4", "down 5", "receipt 6"]);
@@ -36,14 +35,15 @@ fn fresh_histories() {
     tally.assert_met(&[
         "quiet networks",
         "quiet groups of one",
-        "quiet groups of more",
+        "quiet groups of 2 to 4",
+        "quiet groups of 5 to 16",
     ]);
 }
 
 /// From planted plots: clocks and depths at their ends and full channels.
 #[test]
 fn planted_histories() {
-    let tally = run("planted histories", planted_history, 3000);
+    let tally = run("planted history", 4000);
     tally.assert_met(&RULES);
     tally.assert_met(&["up 3", "down 3", "receipt 3"]);
     tally.assert_met(&["up 4", "down 5", "receipt 6"]);

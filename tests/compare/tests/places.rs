@@ -1,6 +1,6 @@
 //! Saved places beside the reference.
 
-use compare::places::{changed_headers, every_place, places_of_another_n, some_places};
+use compare::places::every_place;
 use compare::rounds::{run, seed};
 use compare::tally::Tally;
 
@@ -19,18 +19,18 @@ fn every_place_of_small_images() {
 
 #[test]
 fn some_places_of_large_images() {
-    let tally = run("some places", some_places, 60);
+    let tally = run("some places", 60);
     tally.assert_met(&["look 0", "look 3", "look 13"]);
 }
 
 #[test]
 fn places_kept_while_the_header_changes() {
-    let tally = run("changed headers", changed_headers, 500);
+    let tally = run("changed headers", 500);
     tally.assert_met(&["look 0", "look 1", "look 3", "look 11", "look 12"]);
 }
 
 #[test]
 fn places_kept_from_another_n() {
-    let tally = run("places of another n", places_of_another_n, 60);
+    let tally = run("places of another n", 60);
     tally.assert_met(&["look 0", "look 1", "look 3", "look 13"]);
 }
