@@ -1,25 +1,36 @@
-//! Document 01, "The band plot election", once more: with maps, lists and wide numbers, for a reader who holds it beside the
-//! document section by section. It shares nothing with the implementation it is compared with.
+//! Document 01, "The band plot election": the step of the plot, the packed image of a plot and
+//! the bench program, said again with maps, sets, lists and wide signed numbers. It shares nothing
+//! with the implementation it is compared with; READINGS.md has its readings of unclear points.
 //!
 //! | Module | Section of document 01 |
 //! |---|---|
 //! | [`plot`] | What a station holds |
 //! | [`step`] | The clock; The three events |
 //! | [`refusal`] | Returned numbers |
-//! | [`tables`] | Returned numbers (1 and 2), over the word tables of the interface |
+//! | [`tables`] | Returned numbers (1 and 2), over the lent tables |
 //! | [`image`] | The plot image |
 //! | [`history`] | Lists of calls (what the events make of the channels) |
 //! | [`quiet`] | Lists of calls (demand 3: groups, collectors and chains) |
 //! | [`bench`] | The bench program |
+#![forbid(unsafe_code)]
 
 pub mod bench;
+mod bits;
+mod event;
 pub mod history;
 pub mod image;
 pub mod plot;
 pub mod quiet;
 pub mod refusal;
+mod sound;
 pub mod step;
 pub mod tables;
 
+#[cfg(test)]
+mod worked_images;
+#[cfg(test)]
+mod worked_lists;
+#[cfg(test)]
+mod worked_orders;
 #[cfg(test)]
 mod worked_plots;

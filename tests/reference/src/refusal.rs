@@ -1,37 +1,39 @@
-//! Document 01, "Returned numbers".
+//! Document 01, "Returned numbers": the fifteen refusals.
 
-/// Why a call is refused. "nothing lent changes" after any of them.
+/// The rows of the table "Returned | When, and only then | After it", in its order. After each of
+/// them "nothing lent changes".
 #[derive(Clone, Copy, Debug, PartialEq, Eq)]
 pub enum Refusal {
-    /// "n outside 1 to 16, or a lent table not of the length for n"
+    /// 1: "n outside 1 to 16, or a lent table not of the length for n"
     Sizes,
-    /// "tables or image break a rule of 'What a station holds'", with u and v
+    /// "2, with u and v": "tables or image break a rule of "What a station holds""
     Fault { u: i64, v: i64 },
-    /// "a station number outside 1 to n, or u = v in an event"
+    /// 3: "a station number outside 1 to n, or u = v in an event"
     Station,
-    /// "up on a channel that is up"
+    /// 4: "up on a channel that is up"
     AlreadyUp,
-    /// "down on a channel that is down"
+    /// 5: "down on a channel that is down"
     AlreadyDown,
-    /// "receipt from a channel with no message"
+    /// 6: "receipt from a channel with no message"
     NoMessage,
-    /// "the clock would pass its end"
+    /// 7: "the clock would pass its end"
     ClockEnd,
-    /// "rule A or P would take the depth out of range"
+    /// 8: "rule A or P would take the depth out of range"
     DepthEnd,
-    /// "some channel to be sent on already holds 8"
+    /// 9: "some channel to be sent on already holds 8"
     ChannelFull,
-    /// "image under 4 bytes"
+    /// 10: "image under 4 bytes"
     ImageShort,
-    /// "version not 1, header length not 32, station count outside 1 to 16, or spare bits not 0"
+    /// 11: "version not 1, header length not 32, station count outside 1 to 16, or spare bits
+    /// not 0"
     ImageHeader,
-    /// "image ends too early, has bytes left over, or pad bits not 0"
+    /// 12: "image ends too early, has bytes left over, or pad bits not 0"
     ImageEnd,
-    /// "the saved place is not where that station's record starts"
+    /// 13: "the saved place is not where that station's record starts"
     Place,
-    /// "output room too small"
+    /// 14: "output room too small"
     Room,
-    /// "bench line malformed (program only)"
+    /// 15: "bench line malformed (program only)"
     BenchLine,
 }
 
@@ -57,7 +59,7 @@ impl Refusal {
         }
     }
 
-    /// "2, with u and v": the pair, for refusal 2 alone.
+    /// "2, with u and v": "The pair of refusal 2 is the first fault".
     pub fn pair(self) -> Option<(i64, i64)> {
         match self {
             Refusal::Fault { u, v } => Some((u, v)),

@@ -1,316 +1,233 @@
-//! Document 01, "Returned numbers", refusals 1 and 2: over the two word tables of the interface.
-//!
-//! `nodes` has n rows of 3 + 7n words: clock, N, F, then the n heights by station. `channels` has n times n cells of 65 words:
-//! count, then 8 places of 8 words, a height and its stamp. A height is seven words: τ, originator, bit, depth in two's
-//! complement, election time without its sign, leader, station. A diagonal cell is unused and all zero.
+//! Document 01, "What a station holds" and "Returned numbers" (1 and 2), over the lent tables of
+//! words, laid out as `include/election.h` says.
 
-use crate::plot::{
-    Height, LEAST_DEPTH, Level, MOST_DEPTH, MOST_STATIONS, MOST_WAITING, Message, NO_SEARCH, Pair,
-    Plot, Station,
-};
+use crate::plot::{Height, MOST_STATIONS, MOST_WAITING, Message, Plot, Station};
 use crate::refusal::Refusal;
+use crate::sound::check_places;
 use crate::step::{Answer, Event};
 use std::collections::{BTreeMap, BTreeSet, VecDeque};
 
-/// The words of a height.
+/// "A height is seven numbers".
 pub const HEIGHT_WORDS: usize = 7;
-/// The words of a message: a height and its stamp.
-pub const MESSAGE_WORDS: usize = 8;
-/// The words of a channel: the count and 8 places.
+
+/// "A message is the sender's height and a stamp".
+pub const MESSAGE_WORDS: usize = HEIGHT_WORDS + 1;
+
+/// A count and "0 to 8 messages".
 pub const CELL_WORDS: usize = 1 + MOST_WAITING * MESSAGE_WORDS;
 
-/// The two lent tables.
+/// Words before the heights of a station: clock, N, F.
+const SET_WORDS: usize = 3;
+
+/// The "lent tables" of one plot.
 #[derive(Clone, Debug, PartialEq, Eq)]
 pub struct Tables {
     pub nodes: Vec<u32>,
     pub channels: Vec<u32>,
 }
 
-/// "n from 1 to 16".
+/// "A plot has n stations, n from 1 to 16".
 pub fn is_station_count(n: i64) -> bool {
     (1..=MOST_STATIONS).contains(&n)
 }
 
-/// The words of a row of n heights.
+/// A number of things or a place in a list, for n and station numbers of a plot.
+fn size(number: i64) -> usize {
+    usize::try_from(number).unwrap_or(0)
+}
+
+/// "a lent row of n heights", in words.
 pub fn row_len(n: i64) -> usize {
-    HEIGHT_WORDS * n as usize
+    size(n).saturating_mul(HEIGHT_WORDS)
 }
 
-/// The words of one station.
+/// Clock, N, F "then n heights by station", in words.
 pub fn station_len(n: i64) -> usize {
-    3 + row_len(n)
+    row_len(n).saturating_add(SET_WORDS)
 }
 
-/// The words of all stations.
+/// "the length for n" of the table of stations.
 pub fn nodes_len(n: i64) -> usize {
-    n as usize * station_len(n)
+    size(n).saturating_mul(station_len(n))
 }
 
-/// The words of all channels, the unused diagonal included.
+/// "the length for n" of the table of channels, with a cell also from each station to itself.
 pub fn channels_len(n: i64) -> usize {
-    (n * n) as usize * CELL_WORDS
+    let cells = size(n).saturating_mul(size(n));
+    cells.saturating_mul(CELL_WORDS)
 }
 
-/// The words of station u: clock, N, F, heights.
+/// What station u holds: clock, N, F and its heights.
 pub fn station_words(n: i64, nodes: &[u32], u: i64) -> &[u32] {
-    let start = (u - 1) as usize * station_len(n);
+    let start = size(u - 1) * station_len(n);
     &nodes[start..start + station_len(n)]
 }
 
-/// The words of the height that station u holds for station v.
+/// The height that station u holds for station v; its own for v = u.
 pub fn height_words(n: i64, nodes: &[u32], u: i64, v: i64) -> &[u32] {
-    let start = 3 + (v - 1) as usize * HEIGHT_WORDS;
+    let start = SET_WORDS + size(v - 1) * HEIGHT_WORDS;
     &station_words(n, nodes, u)[start..start + HEIGHT_WORDS]
 }
 
-/// The words of channel u to v.
+/// Channel u to v: its count and its eight places, oldest first.
 pub fn cell_words(n: i64, channels: &[u32], u: i64, v: i64) -> &[u32] {
-    let start = ((u - 1) * n + (v - 1)) as usize * CELL_WORDS;
+    let start = (size(u - 1) * size(n) + size(v - 1)) * CELL_WORDS;
     &channels[start..start + CELL_WORDS]
 }
 
-/// "station k at the bit worth 2 to the power k − 1"
+/// The bit of a station: "station k at the bit worth 2 to the power k − 1".
+fn bit_of(k: i64) -> u32 {
+    let power = u32::try_from(k.saturating_sub(1)).ok();
+    power.and_then(|p| 1u32.checked_shl(p)).unwrap_or(0)
+}
+
+/// Whether station k is in the set: "station k at the bit worth 2 to the power k − 1".
 pub fn is_in(set: u32, k: i64) -> bool {
-    (set >> (k - 1)) & 1 == 1
+    set & bit_of(k) != 0
 }
 
-/// The word of a set of stations.
+/// The set as one word, by the same sentence.
 pub fn set_word(set: &BTreeSet<i64>) -> u32 {
-    set.iter().map(|k| 1u32 << (k - 1)).sum()
+    set.iter().fold(0, |word, k| word | bit_of(*k))
 }
 
-/// The set of stations of a word.
-fn set_of_word(n: i64, word: u32) -> BTreeSet<i64> {
-    (1..=n).filter(|&k| is_in(word, k)).collect()
+/// The word of a number: its last 32 bits, so "two's complement" for a negative one.
+fn word(number: i64) -> u32 {
+    number as u32
 }
 
-/// The seven numbers of seven words. Every word stands for a number, sound or not.
+/// "A height is seven numbers", the depth "in two's complement", the "election time without its
+/// sign".
 pub fn height_of_words(words: &[u32]) -> Height {
-    Height {
-        level: Level {
-            tau: i64::from(words[0]),
-            originator: i64::from(words[1]),
-            bit: i64::from(words[2]),
-        },
-        depth: i64::from(words[3].cast_signed()),
-        pair: Pair {
-            negated_time: -i64::from(words[4]),
-            leader: i64::from(words[5]),
-        },
-        station: i64::from(words[6]),
-    }
+    let depth = i64::from(words[3] as i32);
+    let plain = |place: usize| i64::from(words[place]);
+    Height::of([
+        plain(0),
+        plain(1),
+        plain(2),
+        depth,
+        -plain(4),
+        plain(5),
+        plain(6),
+    ])
 }
 
-/// The seven words of a height.
+/// The same seven numbers as words.
 pub fn words_of_height(height: &Height) -> [u32; HEIGHT_WORDS] {
     [
         word(height.level.tau),
         word(height.level.originator),
         word(height.level.bit),
-        (height.depth as i32).cast_unsigned(),
+        word(height.depth),
         word(-height.pair.negated_time),
         word(height.pair.leader),
         word(height.station),
     ]
 }
 
-/// A number that fits a word, as a word.
-fn word(number: i64) -> u32 {
-    u32::try_from(number).expect("a number of a sound plot")
-}
-
-/// Refusals 1 and 2, in this order.
+/// "A step checks in the order 1, 2"; "Writing checks 1, 2".
 pub fn check(n: i64, nodes: &[u32], channels: &[u32]) -> Result<(), Refusal> {
     check_sizes(n, nodes.len(), channels.len())?;
-    first_fault(n, nodes, channels).map_or(Ok(()), |(u, v)| Err(Refusal::Fault { u, v }))
+    check_places(n, nodes, channels)
 }
 
-/// Refusal 1: "n outside 1 to 16, or a lent table not of the length for n".
+/// 1: "n outside 1 to 16, or a lent table not of the length for n".
 pub fn check_sizes(n: i64, nodes: usize, channels: usize) -> Result<(), Refusal> {
-    if is_station_count(n) && nodes == nodes_len(n) && channels == channels_len(n) {
-        Ok(())
-    } else {
-        Err(Refusal::Sizes)
-    }
+    let good = is_station_count(n) && nodes == nodes_len(n) && channels == channels_len(n);
+    good.then_some(()).ok_or(Refusal::Sizes)
 }
 
-/// "The pair of refusal 2 is the first fault, u ascending, then v ascending".
-fn first_fault(n: i64, nodes: &[u32], channels: &[u32]) -> Option<(i64, i64)> {
-    for u in 1..=n {
-        for v in 1..=n {
-            let sound = if v == u {
-                own_place_is_sound(n, nodes, channels, u)
-            } else {
-                view_is_sound(n, nodes, u, v) && channel_is_sound(n, nodes, channels, u, v)
-            };
-            if !sound {
-                return Some((u, v));
-            }
-        }
-    }
-    None
-}
-
-/// "The place v = u covers the clock, both sets and the own height." Every word is a clock. The unused diagonal cell is owned
-/// by this place too.
-fn own_place_is_sound(n: i64, nodes: &[u32], channels: &[u32], u: i64) -> bool {
-    let words = station_words(n, nodes, u);
-    sets_are_sound(n, words[1], words[2], u)
-        && height_is_sound(n, height_words(n, nodes, u, u), u)
-        && all_zero(cell_words(n, channels, u, u))
-}
-
-/// "Linked set N and forming set F: disjoint, never holding the station itself, 16 bits each, bits above station n zero".
-fn sets_are_sound(n: i64, linked: u32, forming: u32, u: i64) -> bool {
-    let both = linked | forming;
-    linked & forming == 0 && !is_in(both, u) && both >> n == 0
-}
-
-/// "originator 0 to n; reflection bit 0 or 1; depth, signed, −32,768 to 32,767; negated election time; leader 1 to n; station,
-/// the one it belongs to. … τ is 0 exactly when the originator is 0, and then the bit is 0."
-fn height_is_sound(n: i64, words: &[u32], station: i64) -> bool {
-    let height = height_of_words(words);
-    let level = height.level;
-    (0..=n).contains(&level.originator)
-        && (0..=1).contains(&level.bit)
-        && (level.tau == 0) == (level.originator == 0)
-        && (level.tau != 0 || level == NO_SEARCH)
-        && (LEAST_DEPTH..=MOST_DEPTH).contains(&height.depth)
-        && (1..=n).contains(&height.pair.leader)
-        && height.station == station
-}
-
-/// "The place v ≠ u covers the view of v (zero if v is not in N of u)".
-fn view_is_sound(n: i64, nodes: &[u32], u: i64, v: i64) -> bool {
-    let view = height_words(n, nodes, u, v);
-    if is_in(station_words(n, nodes, u)[1], v) {
-        height_is_sound(n, view, v)
-    } else {
-        all_zero(view)
-    }
-}
-
-/// "and channel u to v: count, messages, unused places, and count 0 when down." A message's "station number is the sender's".
-fn channel_is_sound(n: i64, nodes: &[u32], channels: &[u32], u: i64, v: i64) -> bool {
-    let words = station_words(n, nodes, u);
-    let cell = cell_words(n, channels, u, v);
-    let up = is_in(words[1] | words[2], v);
-    let count = cell[0] as usize;
-    if count > MOST_WAITING || (count > 0 && !up) {
-        return false;
-    }
-    let (used, unused) = cell[1..].split_at(count * MESSAGE_WORDS);
-    let mut messages = used.chunks(MESSAGE_WORDS);
-    messages.all(|message| height_is_sound(n, &message[..HEIGHT_WORDS], u)) && all_zero(unused)
-}
-
-/// "Unused places in the lent tables are all zero."
-fn all_zero(words: &[u32]) -> bool {
-    words.iter().all(|&word| word == 0)
-}
-
-/// The plot of two tables, or refusal 1 or 2.
+/// The plot that the tables hold, after the checks 1 and 2.
 pub fn load(n: i64, nodes: &[u32], channels: &[u32]) -> Result<Plot, Refusal> {
     check(n, nodes, channels)?;
     let mut plot = Plot::fresh(n);
-    for u in 1..=n {
-        plot.stations.insert(u, load_station(n, nodes, u));
+    for (u, station) in &mut plot.stations {
+        *station = station_of_words(n, nodes, *u);
     }
-    for (&(u, v), waiting) in &mut plot.channels {
-        *waiting = load_channel(cell_words(n, channels, u, v));
+    for ((u, v), waiting) in &mut plot.channels {
+        *waiting = waiting_of_words(cell_words(n, channels, *u, *v));
     }
     Ok(plot)
 }
 
-/// The station of a sound row.
-fn load_station(n: i64, nodes: &[u32], u: i64) -> Station {
-    let words = station_words(n, nodes, u);
-    let view = |v| (v, height_of_words(height_words(n, nodes, u, v)));
-    let linked: BTreeMap<i64, Height> = set_of_word(n, words[1]).into_iter().map(view).collect();
+/// "Clock", "Linked set N and forming set F", "A height for itself, and its view of each member
+/// of N."
+fn station_of_words(n: i64, nodes: &[u32], u: i64) -> Station {
+    let station = station_words(n, nodes, u);
+    let view = |v: i64| height_of_words(height_words(n, nodes, u, v));
+    let members = |set: u32| (1..=n).filter(move |k| is_in(set, *k));
+    let linked: BTreeMap<i64, Height> = members(station[1]).map(|v| (v, view(v))).collect();
     Station {
-        clock: i64::from(words[0]),
+        clock: i64::from(station[0]),
         linked,
-        forming: set_of_word(n, words[2]),
-        own: height_of_words(height_words(n, nodes, u, u)),
+        forming: members(station[2]).collect(),
+        own: view(u),
     }
 }
 
-/// The messages of a sound cell.
-fn load_channel(cell: &[u32]) -> VecDeque<Message> {
+/// The messages of a cell, oldest first.
+fn waiting_of_words(cell: &[u32]) -> VecDeque<Message> {
     let places = cell[1..].chunks(MESSAGE_WORDS);
-    let message = |words: &[u32]| Message {
-        height: height_of_words(words),
-        stamp: i64::from(words[HEIGHT_WORDS]),
+    let message = |place: &[u32]| Message {
+        height: height_of_words(place),
+        stamp: i64::from(place[HEIGHT_WORDS]),
     };
     places.take(cell[0] as usize).map(message).collect()
 }
 
-/// The two tables of a plot.
+/// The tables that hold a plot, "Unused places [..] all zero."
 pub fn store(plot: &Plot) -> Tables {
-    let mut tables = Tables {
-        nodes: Vec::new(),
-        channels: Vec::new(),
-    };
+    let mut nodes = Vec::with_capacity(nodes_len(plot.n));
+    let mut channels = Vec::with_capacity(channels_len(plot.n));
     for u in 1..=plot.n {
-        tables.nodes.extend(store_station(plot, u));
+        let station = plot.station(u);
+        let linked: BTreeSet<i64> = station.linked.keys().copied().collect();
+        nodes.push(word(station.clock));
+        nodes.push(set_word(&linked));
+        nodes.push(set_word(&station.forming));
+        nodes.extend(store_row(plot, u));
         for v in 1..=plot.n {
-            tables.channels.extend(store_channel(plot, u, v));
+            channels.extend(words_of_waiting(plot.channels.get(&(u, v))));
         }
     }
-    tables
+    Tables { nodes, channels }
 }
 
-/// Clock, N, F and the n heights of a station.
-fn store_station(plot: &Plot, u: i64) -> Vec<u32> {
-    let station = plot.station(u);
-    let linked: BTreeSet<i64> = station.linked.keys().copied().collect();
-    let mut words = vec![
-        word(station.clock),
-        set_word(&linked),
-        set_word(&station.forming),
-    ];
-    words.extend(store_row(plot, u));
-    words
-}
-
-/// "A height for itself, and its view of each member of N. The view of any other station is all zero."
+/// "n heights by station": the own height at its own place, "The view of any other station is all
+/// zero."
 pub fn store_row(plot: &Plot, u: i64) -> Vec<u32> {
     let station = plot.station(u);
-    let mut words = Vec::new();
-    for v in 1..=plot.n {
-        let held = if v == u {
-            Some(&station.own)
-        } else {
-            station.linked.get(&v)
-        };
-        words.extend(held.map_or([0; HEIGHT_WORDS], words_of_height));
-    }
-    words
+    let height = |v: i64| match station.linked.get(&v) {
+        _ if v == u => words_of_height(&station.own),
+        Some(view) => words_of_height(view),
+        None => [0; HEIGHT_WORDS],
+    };
+    (1..=plot.n).flat_map(height).collect()
 }
 
-/// The cell of channel u to v; on the diagonal all zero.
-fn store_channel(plot: &Plot, u: i64, v: i64) -> Vec<u32> {
-    let mut words = vec![0];
-    if u != v {
-        let waiting = plot.waiting(u, v);
-        words[0] = waiting.len() as u32;
-        for message in waiting {
-            words.extend(words_of_height(&message.height));
-            words.push(word(message.stamp));
-        }
+/// The cell of a channel; all zero where there is no channel, from a station to itself.
+fn words_of_waiting(waiting: Option<&VecDeque<Message>>) -> Vec<u32> {
+    let mut cell = Vec::with_capacity(CELL_WORDS);
+    let messages = waiting.into_iter().flatten();
+    cell.push(waiting.map_or(0, |list| list.len() as u32));
+    for message in messages {
+        cell.extend(words_of_height(&message.height));
+        cell.push(word(message.stamp));
     }
-    words.resize(CELL_WORDS, 0);
-    words
+    cell.resize(CELL_WORDS, 0);
+    cell
 }
 
-/// One event on tables: "A step checks in the order 1, 2, 3, then 4, 5 or 6, then 7, 8, 9." A refused event changes no word.
+/// "A step checks in the order 1, 2, 3, then 4, 5 or 6, then 7, 8, 9." Refused: "nothing lent
+/// changes".
 pub fn step(n: i64, event: Event, tables: &mut Tables) -> Answer {
-    match load(n, &tables.nodes, &tables.channels) {
-        Err(refusal) => Answer::refused(refusal),
-        Ok(mut plot) => {
-            let answer = crate::step::step(&mut plot, event);
-            *tables = store(&plot);
-            answer
-        }
+    let mut plot = match load(n, &tables.nodes, &tables.channels) {
+        Ok(plot) => plot,
+        Err(refusal) => return Answer::refused(refusal),
+    };
+    let answer = crate::step::step(&mut plot, event);
+    if answer.number == 0 {
+        *tables = store(&plot);
     }
+    answer
 }
