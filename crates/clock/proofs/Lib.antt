@@ -1,0 +1,3 @@
+-- What the clock's functions show of their answers.
+-- Assumes nothing.
+pub mod AdvanceLaws

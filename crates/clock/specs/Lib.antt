@@ -1,0 +1,3 @@
+-- The clock where it is kept.
+-- Assumes nothing: these are definitions.
+pub mod Advance
