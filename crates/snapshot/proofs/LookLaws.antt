@@ -1,11 +1,11 @@
 -- One node at a saved place: where its record starts, what is read there, and the call by what header and checks answer.
 -- Assumes at most 16 nodes.
-use Prim.Native.Nat.{ℕ, suc, _+_, _-_, _*_, _^_, _≤_, _<_}
+use Prim.Native.Nat.{ℕ, suc, _+_, _-_, _*_, _^_, _≤_}
 use native.Mathlib.Omega.{arith}
 use mathlib.Core.Bool.{true, false, _||_}
 use mathlib.Core.List.{List, [], _∷_}
 use mathlib.Core.Path.{_≡_, refl, sym, ap, _∙_}
-use borrow.Author.Tests.{eq-eqb, ne-eqb, leb-true, ltb-false, le-ltb}
+use borrow.Author.Tests.{eq-eqb, ne-eqb, leb-true, ltb-false, le-ltb, lt-ltb, le-leb}
 use lib.Dec.{leb, ltb}
 use lib.ListN.{length}
 use types.Run.{miss}
@@ -20,6 +20,9 @@ use Rattle.network.specs.Check.{checked}
 use Rattle.protocol.specs.Component.{Node}
 use Rattle.protocol.specs.Network.{isNode}
 use Rattle.protocol.proofs.TestsLaws.{Choice, yes!, no!, choice, and-left, and-right}
+use Rattle.reader.specs.Fields.{within}
+use Rattle.reader.specs.Record.{NodeRow, nodeRow, recordIn, nodeInside, nodeOn, saidNode as saidRead}
+use Rattle.reader.specs.declared.NodeTaken.{NodeTaken}
 use Rattle.reading.specs.Examine.{Walkable, saidExamined, examined}
 use Rattle.reading.specs.Header.{headerOf}
 use Rattle.reading.specs.declared.Examined.{Examined}
@@ -29,7 +32,7 @@ use Rattle.reading.specs.declared.Header.{Header}
 use Rattle.reading.specs.declared.Header.the-variants.{Good, Short, Wrong}
 use Rattle.tables.proofs.RowsLaws.{product-le}
 use Rattle.tables.proofs.TablesLaws.{is-node}
-use Rattle.snapshot.specs.ReadNode.{looked, refusedNode, nodeAt, nodePlaced, nodeExamined, nodeHeaded, readNodeOn}
+use Rattle.snapshot.specs.ReadNode.{Looked, looked, refusedNode, nodeAt, nodePlaced, nodeExamined, nodeHeaded, readNodeOn}
 use Rattle.snapshot.specs.Restore.{saidHeader}
 use Rattle.snapshot.proofs.RestoreLaws.{Refused}
 
@@ -39,11 +42,6 @@ before-small n k few low high =
     let w : 64 + 96 * n ≤ 1600 = omega arith in
     let i : k - 1 ≤ 15 = omega arith in
     product-le (k - 1) (64 + 96 * n) i w
-
--- the first 64 bits of a record that stands inside the bytes
-pub head-inside : (xs : List ℕ) (at n : ℕ) → Inside xs at (nodeWidth 16 n) → (at + 64 < 2 ^ 32) × (at + 64 ≤ 8 * length xs)
-unfolding nodeWidth
-head-inside xs at n h = (omega (arith, h .small), omega (arith, h .inside))
 
 pub node-is : (n k : ℕ) → (ltb k 1 || ltb n k) ≡ false → Node n k
 node-is n k e = go (choice (ltb k 1)) (choice (ltb n k))
@@ -124,3 +122,29 @@ record-inside xs n k at w node e =
       small = omega (arith, a, b, w .small, e);
       inside = omega (arith, a, b, w .inside, e, length-unpacked xs);
     }
+
+-- ---- what a reader there answers
+
+-- the reader's answer as one of this crate
+abbrev pub as-looked : NodeRow → Looked
+as-looked r =
+    looked (record { check = checked (r .said .number) 0 0; clock = r .said .clock; neighbors = r .said .neighbors; forming = r .said .forming }) (r .row)
+
+-- a reader refuses no record that stands inside
+module _ (n : ℕ) (xs : List ℕ) (at : ℕ) (row : List ℕ) (low : 1 ≤ n) (high : n ≤ 16) (wide : length row ≡ n * 7) (i : Inside xs at (nodeWidth 16 n)) where
+  reader-reads : nodeOn n xs at row ≡ recordIn n (unpacked xs) at
+  unfolding nodeOn nodeInside within
+  reader-reads =
+      let w = nodeWidth 16 n in
+      rw (
+        le-ltb n 1 low,
+        le-ltb 16 n high,
+        eq-eqb (length row) (n * 7) wide,
+        lt-ltb (at + w) (2 ^ 64) (omega (arith, i .small)),
+        le-leb (at + w) (8 * length xs) (i .inside),
+      )
+
+  pub reader-answers : {t u : NodeTaken} {zs : List ℕ} → nodeRow (saidRead t) zs ≡ nodeOn n xs at row → t ≡ u
+      → as-looked (nodeRow (saidRead u) zs) ≡ nodeAt n (unpacked xs) at
+  unfolding nodeAt recordIn
+  reader-answers {zs} e q = ap (λ (v : NodeTaken). as-looked (nodeRow (saidRead v) zs)) (sym q) ∙ ap as-looked (e ∙ reader-reads)

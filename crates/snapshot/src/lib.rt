@@ -5,7 +5,6 @@ ghost use Rattle.snapshot.specs.ReadNode.{saidNode, looked, readNodeOn};
 ghost use Rattle.snapshot.specs.Restore.{saidRestore, restoreOn};
 ghost use Rattle.snapshot.specs.Save.{saidSave, saving, saveOn};
 ghost use Rattle.tables.specs.Tables.{before, after};
-use height::Time;
 
 mod looking;
 mod restoring;
@@ -30,11 +29,7 @@ pub enum Restored {
 }
 
 // A node's clock and both sets.
-pub struct NodeRecord {
-    pub clock: Time,
-    pub neighbors: u16,
-    pub forming: u16,
-}
+pub use reader::NodeRecord;
 
 // What reading one node answers: the record (0), or as a restore, or k outside 1 to n (3), or not where k's record starts (13).
 pub enum NodeRead {

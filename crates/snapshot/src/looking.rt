@@ -10,11 +10,8 @@ ghost use Rattle.protocol.specs.Component.{Node};
 ghost use Rattle.reading.specs.Examine.{Walkable};
 ghost use Rattle.reading.specs.declared.Header.the-variants.{Good};
 ghost use Rattle.snapshot.specs.ReadNode.{saidNode, refusedNode, looked, nodeAt, nodePlaced, nodeHeaded};
-ghost use Rattle.snapshot.specs.declared.NodeRead.the-variants.{Found};
 ghost use Rattle.snapshot.specs.Restore.{saidHeader};
 use super::NodeRead;
-use super::NodeRecord;
-use height::Time;
 
 // What a header that is not good is answered with.
 pub fn of_header(h: reading::Header) -> NodeRead
@@ -70,22 +67,17 @@ fn placed(image: &[u8], fields: reading::Fields, k: u32, place: u64, row: &mut [
     if place != at as u64 {
         return NodeRead::NotPlace;
     }
-    let record = record_at(image, at, fields.n, row);
-    NodeRead::Found(record)
+    record_at(image, at, fields.n, row)
 }
 
-// The record at a bit place: the heights go into the row.
-fn record_at(image: &[u8], at: usize, n: u32, row: &mut [u32]) -> NodeRecord
-    requires { ⌜ (n ≤ 16) × (length (now row) ≡ n * 7) × Inside (now image) at (nodeWidth 16 n) ⌝ }
-    ensures { λ r. ⌜ looked (saidNode (Found r)) (now (row .exit)) ≡ nodeAt n (unpacked (now (image .entry))) at ⌝ }
+// The record where a reader stands at that place: the heights go into the row. The reader refuses none that is inside.
+fn record_at(image: &[u8], at: usize, n: u32, row: &mut [u32]) -> NodeRead
+    requires { ⌜ (1 ≤ n) × (n ≤ 16) × (length (now row) ≡ n * 7) × Inside (now image) at (nodeWidth 16 n) ⌝ }
+    ensures { λ r. ⌜ looked (saidNode r) (now (row .exit)) ≡ nodeAt n (unpacked (now (image .entry))) at ⌝ }
 {
-    image::rows::get_heights(image, at, 16, n as usize, row);
-    let clock = Time(bits::get(image, at, 32));
-    let neighbors = bits::get(image, at + 32, 16) as u16;
-    let forming = bits::get(image, at + 48, 16) as u16;
-    NodeRecord {
-        clock,
-        neighbors,
-        forming,
+    match reader::read_node(image, at, n, row) {
+        reader::NodeTaken::Found(node) => NodeRead::Found(node),
+        reader::NodeTaken::Sizes => NodeRead::Sizes,
+        reader::NodeTaken::Short => NodeRead::BadEnd,
     }
 }

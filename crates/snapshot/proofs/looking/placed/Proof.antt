@@ -2,6 +2,7 @@
 -- Assumes nothing.
 use Prim.Native.Nat.{ℕ}
 use Rattle.image.specs.Places.{nodePlace}
+use native.Mathlib.Omega.{arith}
 use mathlib.Core.Path.{sym, ap, _∙_}
 use Rattle.snapshot.proofs.LookLaws.{not-node, node-is, not-place, at-place, record-inside}
 use borrow.Author.Needs.{needs}
@@ -29,7 +30,7 @@ record-at-requires c κs =
     let s = c .before .before .before .before .before .before .before in
     let node = node-is _ (s .args .k) (c .before .before .before .if1 .left) in
     let at = c .before .before .start .ensures .0 ∙ ap (λ (h : ℕ). nodePlace h 16 (s .args .fields .n) (s .args .k)) (s .pre .0) in
-    (s .pre .1, s .pre .2, record-inside _ _ (s .args .k) _ (s .pre .3) node at)
+    (omega (arith, node .low, node .high), s .pre .1, s .pre .2, record-inside _ _ (s .args .k) _ (s .pre .3) node at)
 
 -- src/looking.rt:62:1
 same-length : tie.Need-same-length

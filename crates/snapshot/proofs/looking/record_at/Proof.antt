@@ -1,82 +1,42 @@
--- `snapshot::looking::record_at` meets its contract. Assumes nothing.
-use Prim.Native.Nat.{_+_}
-use native.Mathlib.Omega.{arith}
-use Rattle.bits.proofs.Bytes.{field-lt}
-use Rattle.bits.specs.Bits.{field}
-use Rattle.image.specs.Places.{fieldIn}
-use Rattle.snapshot.specs.ReadNode.{nodeAt}
-use Rattle.snapshot.proofs.LookLaws.{head-inside}
+-- `snapshot::looking::record_at` meets its contract: what the reader answers, case by case.
+-- Assumes nothing.
 use borrow.Author.Needs.{needs}
+use Rattle.snapshot.proofs.LookLaws.{reader-answers}
 use Rattle.snapshot.proofs.looking.record_at.Statement.{statement}
 use Rattle.snapshot.proofs.looking.record_at.Tie as tie
 
--- src/looking.rt:45:5
-get-heights-requires : tie.Need-get-heights-requires
-get-heights-requires c κs = search needs
-
--- src/looking.rt:46:22
-get-requires : tie.Need-get-requires
-get-requires c κs =
-    let s = c .before .before .before .before .before .before in
-    let h = head-inside (s .args .image .now) (s .args .at) (s .args .n) (s .pre .2) in
-    (omega arith, (omega (arith, h .0), omega (arith, h .1)))
-
--- src/looking.rt:47:38
-add-get : tie.Need-add-get
-add-get c = search needs
-
--- src/looking.rt:47:21
-get-requires-2 : tie.Need-get-requires-2
-get-requires-2 c κs =
-    let s = c .before .before .before .before .before .before .before in
-    let h = head-inside (s .args .image .now) (s .args .at) (s .args .n) (s .pre .2) in
-    (omega arith, (omega (arith, h .0), omega (arith, h .1)))
-
--- src/looking.rt:47:21
-cast-neighbors : tie.Need-cast-neighbors
-cast-neighbors c =
-    let s = c .before .before .before .before .before .before .before .before in
-    let h = head-inside (s .args .image .now) (s .args .at) (s .args .n) (s .pre .2) in
-    record { fits = rw (c .get2 .ensures) (field-lt (s .args .image .now) (s .args .at + 32) 16 (omega (arith, h .1))) }
-
--- src/looking.rt:48:36
-add-get-2 : tie.Need-add-get-2
-add-get-2 c = search needs
-
--- src/looking.rt:48:19
-get-requires-3 : tie.Need-get-requires-3
-get-requires-3 c κs =
-    let s = c .before .before .before .before .before .before .before .before in
-    let h = head-inside (s .args .image .now) (s .args .at) (s .args .n) (s .pre .2) in
-    (omega arith, (omega (arith, h .0), omega (arith, h .1)))
-
--- src/looking.rt:48:19
-cast-forming : tie.Need-cast-forming
-cast-forming c =
-    let s = c .before .before .before .before .before .before .before .before .before in
-    let h = head-inside (s .args .image .now) (s .args .at) (s .args .n) (s .pre .2) in
-    record { fits = rw (c .get3 .ensures) (field-lt (s .args .image .now) (s .args .at + 48) 16 (omega (arith, h .1))) }
-
--- src/looking.rt:41:1
-same-length : tie.Need-same-length
-same-length c = search needs
-
--- src/looking.rt:41:1
 returns : tie.Need-returns
-unfolding nodeAt field fieldIn
-returns c = rw (c .before .before .get .ensures, c .before .get2 .ensures, c .get3 .ensures, c .before .before .before .before .before .get-heights .ensures)
+returns c =
+    let s = c .before .before .before .before .before .before .before .before .before in
+    let a = s .args in
+    reader-answers (a .n) (a .image .now) (a .at) (a .row .now) (s .pre .0) (s .pre .1) (s .pre .2) (s .pre .3)
+    (c .before .before .before .before .before .read-node .ensures) (c .before .node .given .1)
+
+returns-2 : tie.Need-returns-2
+returns-2 c =
+    let s = c .before .before .before .before .before .before .before .before in
+    let a = s .args in
+    reader-answers (a .n) (a .image .now) (a .at) (a .row .now) (s .pre .0) (s .pre .1) (s .pre .2) (s .pre .3)
+    (c .before .before .before .before .read-node .ensures) (c .enum-told .given .1)
+
+returns-3 : tie.Need-returns-3
+returns-3 c =
+    let s = c .before .before .before .before .before .before .before .before in
+    let a = s .args in
+    reader-answers (a .n) (a .image .now) (a .at) (a .row .now) (s .pre .0) (s .pre .1) (s .pre .2) (s .pre .3)
+    (c .before .before .before .before .read-node .ensures) (c .enum-told2 .given .1)
 
 pub record-at-spec : {M : Type 1} → statement M
 record-at-spec =
     tie.close
     (tie.spec
-    get-heights-requires
-    get-requires
-    add-get
-    get-requires-2
-    cast-neighbors
-    add-get-2
-    get-requires-3
-    cast-forming
-    same-length
-    returns)
+    (λ c κs. search needs)
+    (λ c. search needs)
+    (λ c. search needs)
+    (λ c. search needs)
+    (λ c. search needs)
+    returns
+    (λ c. search needs)
+    returns-2
+    (λ c. search needs)
+    returns-3)
