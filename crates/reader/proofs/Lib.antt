@@ -1,4 +1,5 @@
 -- What the functions of this crate show of their answers.
 -- Assumes nothing.
 pub mod FieldLaws
+pub mod Held
 pub mod RecordLaws

@@ -1,6 +1,5 @@
--- `reader::read_node` meets its contract: a walk of its MIR, by hand. A reader that `new` returns is held in a local and passed to `node`, with the row.
--- Assumes only that `new` and `node` meet their contracts. In a local MIR erases the lifetime of the reader's type, so its value is shown to have the
--- type at `erased`; the row's borrow is passed on for good.
+-- `reader::read_node` meets its contract: a walk of its MIR, by hand. What `new` returns is held in a local, at an erased lifetime, and passed to `node`.
+-- Assumes only that `new` and `node` meet their contracts. The row's borrow is passed on for good: at exit its last words are those that `node` said.
 use mathlib.Core.Path.{_≡_, refl}
 use Prim.Native.Nat.{ℕ, _<_, _^_}
 use mathlib.Core.List.{List, [], _∷_}
