@@ -68,10 +68,6 @@ unpacked-packed (suc n) l e b =
     (unpacked-packed n (drop 8 l) d (below-drop 2 8 l b))
     ∙ take-append-drop 8 l
 
--- bytes are told by their bits
-pub unpacked-inj : (xs ys : List ℕ) → Below 256 xs → Below 256 ys → length xs ≡ length ys → unpacked xs ≡ unpacked ys → xs ≡ ys
-unpacked-inj xs ys bx by e u = sym (packed-unpacked xs bx) ∙ ap₂ packed e u ∙ packed-unpacked ys by
-
 -- ---- one byte of the bytes
 pub unpacked-at : (xs : List ℕ) (i : ℕ) → i < length xs → drop (8 * i) (unpacked xs) ≡ bits 8 (getD xs i 0) ++ unpacked (drop (suc i) xs)
 unfolding unpacked

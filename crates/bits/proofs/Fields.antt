@@ -5,12 +5,12 @@ use native.Mathlib.Nat.{add-zero, mod-eq-of-lt}
 use native.Mathlib.Numerals.{add-one}
 use native.Mathlib.Omega.{arith}
 use mathlib.Core.Path.{_≡_, refl, sym, ap, ap₂, _∙_}
-use mathlib.Core.List.{List, [], _∷_, _++_, append-assoc, append-nil}
+use mathlib.Core.List.{List, [], _∷_, _++_, append-assoc}
 use lib.ListN.{length, take, drop, getD, set, length-append, length-take, length-drop, take-append-drop}
 use lib.Seq.{take-at, drop-at, take-suc, drop-cons, drop-drop, take-add, set-at}
 use Rattle.bits.specs.Bits.{bits, number, unpacked, field, written, total, spread, gathered}
 use Rattle.bits.proofs.Numbers.{Below, below-nil, below-append, below-bits, below-take, below-drop, length-bits, number-bits, bits-number}
-use Rattle.bits.proofs.Bytes.{below-unpacked, length-unpacked, written-tail, written-own, written-written}
+use Rattle.bits.proofs.Bytes.{below-unpacked, length-unpacked, written-tail, written-own}
 
 pub total-append : (a b : List ℕ) → total (a ++ b) ≡ total a + total b
 unfolding total
@@ -102,16 +102,6 @@ total-more ws k h =
     ap (λ (n : ℕ). total (take n ws)) (add-one k) ∙ ap total (take-suc ws k 0 h) ∙ total-append (take k ws) (getD ws k 0 ∷ [])
     ∙ ap (λ (x : ℕ). total (take k ws) + x) (add-zero (getD ws k 0))
 
-pub spread-more : (ws vs : List ℕ) (k : ℕ) → k < length ws → length ws ≡ length vs
-    → spread (take (k + 1) ws) (take (k + 1) vs) ≡ spread (take k ws) (take k vs) ++ bits (getD ws k 0) (getD vs k 0)
-unfolding spread
-spread-more ws vs k h e =
-    let a : length (take k ws) ≡ length (take k vs) = simp length-take (omega arith) in
-    ap (λ (n : ℕ). spread (take n ws) (take n vs)) (add-one k)
-    ∙ ap₂ spread (take-suc ws k 0 h) (take-suc vs k 0 (omega arith))
-    ∙ spread-append (take k ws) (getD ws k 0 ∷ []) (take k vs) (getD vs k 0 ∷ []) a
-    ∙ ap (λ (t : List ℕ). spread (take k ws) (take k vs) ++ t) (append-nil (bits (getD ws k 0) (getD vs k 0)))
-
 pub gathered-more : (ws bs : List ℕ) (k : ℕ) → k < length ws
     → gathered (take (k + 1) ws) bs ≡ gathered (take k ws) bs ++ (number (take (getD ws k 0) (drop (total (take k ws)) bs)) ∷ [])
 unfolding gathered
@@ -126,17 +116,6 @@ total-take-le ws k = omega (arith, total-append (take k ws) (drop k ws), ap tota
 
 pub total-in : (ws : List ℕ) (k : ℕ) → k < length ws → total (take k ws) + getD ws k 0 ≤ total ws
 total-in ws k h = omega (arith, total-more ws k h, total-take-le ws (k + 1))
-
-pub put-more : (xs : List ℕ) (at : ℕ) (ws vs : List ℕ) (k : ℕ) → k < length ws → length ws ≡ length vs → at + total ws ≤ 8 * length xs
-    → written (written xs at (spread (take k ws) (take k vs))) (at + total (take k ws)) (bits (getD ws k 0) (getD vs k 0))
-    ≡ written xs at (spread (take (k + 1) ws) (take (k + 1) vs))
-put-more xs at ws vs k h e r =
-    let a : length (take k ws) ≡ length (take k vs) = simp length-take (omega arith) in
-    let b : List ℕ = spread (take k ws) (take k vs) in
-    let n : length b ≡ total (take k ws) = length-spread (take k ws) (take k vs) a in
-    written-written xs at b (bits (getD ws k 0) (getD vs k 0)) (at + total (take k ws)) (below-spread (take k ws) (take k vs)) (omega arith)
-    (omega (arith, length-bits (getD ws k 0) (getD vs k 0), total-in ws k h))
-    ∙ ap (written xs at) (sym (spread-more ws vs k h e))
 
 pub get-more : (xs : List ℕ) (at : ℕ) (ws vs us : List ℕ) (k : ℕ) → k < length ws → length ws ≡ length vs
     → us ≡ gathered (take k ws) (drop at (unpacked xs)) ++ drop k vs

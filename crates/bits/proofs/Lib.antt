@@ -4,4 +4,6 @@ pub mod Numbers
 pub mod Overlay
 pub mod Bytes
 pub mod Turns
+pub mod SixtyFour
 pub mod Fields
+pub mod Holding

@@ -40,7 +40,7 @@ number-bits (suc w) v =
     ap₂ (λ (x y : ℕ). v / 2 ^ w % 2 * 2 ^ x + y) (length-bits w v) (number-bits w v)
     ∙ sym (ap (λ (x : ℕ). v % 2 ^ x) (sym (one-add w)) ∙ mod-pow-add v 1 w)
 
-add-mul-assoc : (x p q r t : ℕ) → (x * p + q) * r + t ≡ x * (p * r) + (q * r + t)
+pub add-mul-assoc : (x p q r t : ℕ) → (x * p + q) * r + t ≡ x * (p * r) + (q * r + t)
 add-mul-assoc x p q r t = ap (λ (y : ℕ). y + t) (add-mul (x * p) q r ∙ ap (λ (y : ℕ). y + q * r) (mul-assoc x p r)) ∙ add-assoc (x * (p * r)) (q * r) t
 
 pub number-append : (a b : List ℕ) → number (a ++ b) ≡ number a * 2 ^ length b + number b

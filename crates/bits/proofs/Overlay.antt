@@ -3,7 +3,7 @@
 use Prim.Native.Nat.{ℕ, _+_, _-_, _≤_}
 use native.Mathlib.Nat.{add-assoc}
 use native.Mathlib.Omega.{arith}
-use mathlib.Core.Path.{_≡_, refl, sym, ap, ap₂, _∙_}
+use mathlib.Core.Path.{_≡_, sym, ap, ap₂, _∙_}
 use mathlib.Core.List.{List, _++_, append-assoc}
 use lib.ListN.{length, take, drop, length-append, length-take, length-drop, take-append-drop}
 use lib.Seq.{take-append-le, drop-append-le, drop-append-add, take-at, drop-at, take-add, drop-drop, take-take}
@@ -45,11 +45,6 @@ over-drop l at bs n k h =
     ∙ drop-append-add bs (drop (at + length bs) l) d
     ∙ drop-drop d (at + length bs) l
     ∙ ap (λ (x : ℕ). drop x l) f
-
--- what is written is read
-pub over-same : (l : List ℕ) (at : ℕ) (bs : List ℕ) → at ≤ length l → take (length bs) (drop at (over l at bs)) ≡ bs
-over-same l at bs h =
-    ap (take (length bs)) (over-tail l at bs h) ∙ take-at bs (drop (at + length bs) l) (length bs) refl
 
 -- every part that the written one does not touch is as it was
 pub over-before : (l : List ℕ) (at : ℕ) (bs : List ℕ) (a w : ℕ) → a + w ≤ at → at + length bs ≤ length l → take w (drop a (over l at bs)) ≡ take w (drop a l)

@@ -5,6 +5,8 @@ ghost use Prim.Native.Nat.{_+_, _*_, _/_, _%_, _^_, _≤_, _<_};
 ghost use lib.ListN.{length, take, drop};
 ghost use Rattle.bits.specs.Bits.{bits, unpacked, over, field, written, spread, gathered, RoomFor};
 
+mod words;
+
 // The n low bits of a number after its r lowest.
 pub fn digits(v: u32, n: usize, r: usize) -> u32
     requires { ⌜ (n ≤ 8) × (r < 32) ⌝ }
@@ -22,8 +24,22 @@ pub fn run(at: usize, left: usize) -> usize
     if left < room { left } else { room }
 }
 
-// The field of `width` bits at a bit place, the most significant bit first: up to five bytes are read.
+// The field of `width` bits at a bit place, the most significant bit first: out of eight bytes where these are there.
 pub fn get(bytes: &[u8], at: usize, width: usize) -> u32
+    requires { ⌜ (width ≤ 32) × ((at < 2 ^ 32) × (at + width ≤ 8 * length (now bytes))) ⌝ }
+    ensures { λ v. ⌜ v ≡ field (now (bytes .entry)) at width ⌝ }
+{
+    let i = at / 8;
+    if 0 < width {
+        if i + 8 <= bytes.len() {
+            return words::part(words::load(bytes, i), at % 8, width);
+        }
+    }
+    get_by_bytes(bytes, at, width)
+}
+
+// The same byte by byte, near the end.
+fn get_by_bytes(bytes: &[u8], at: usize, width: usize) -> u32
     requires { ⌜ (width ≤ 32) × ((at < 2 ^ 32) × (at + width ≤ 8 * length (now bytes))) ⌝ }
     ensures { λ v. ⌜ v ≡ field (now (bytes .entry)) at width ⌝ }
 {
@@ -74,19 +90,89 @@ fn wide(w: u8) -> usize
     w as usize
 }
 
-// Values go to fields end to end from a bit place on, each at its width.
+fn long(v: u32) -> u64
+    ensures { λ r. ⌜ r ≡ v ⌝ }
+{
+    v as u64
+}
+
+// The low `width` bits of a number of 64 go to a bit place.
+fn put_long(buf: &mut [u8], at: usize, width: usize, value: u64)
+    requires { ⌜ (width ≤ 64) × ((at + width < 2 ^ 32) × (at + width ≤ 8 * length (now buf))) ⌝ }
+    ensures { λ _. ⌜ now (buf .exit) ≡ written (now (buf .entry)) at (bits width value) ⌝ }
+{
+    let low = (value % 4294967296) as u32;
+    if width <= 32 {
+        put_low(buf, at, width, low);
+        return;
+    }
+    put_low(buf, at, width - 32, (value >> 32) as u32);
+    put_low(buf, at + (width - 32), 32, low);
+}
+
+// As `put`, with four whole bytes at once where it is these.
+fn put_low(buf: &mut [u8], at: usize, width: usize, value: u32)
+    requires { ⌜ (width ≤ 32) × ((at + width < 2 ^ 32) × (at + width ≤ 8 * length (now buf))) ⌝ }
+    ensures { λ _. ⌜ now (buf .exit) ≡ written (now (buf .entry)) at (bits width value) ⌝ }
+{
+    if width == 32 {
+        if at % 8 == 0 {
+            words::store(buf, at / 8, 4, long(value));
+            return;
+        }
+    }
+    put(buf, at, width, value);
+}
+
+// The 64 bits of a number go to a bit place: eight bytes, and where the place is inside a byte, a part of the ninth.
+fn put_word(buf: &mut [u8], at: usize, value: u64)
+    requires { ⌜ (at + 64 < 2 ^ 32) × (at + 64 ≤ 8 * length (now buf)) ⌝ }
+    ensures { λ _. ⌜ now (buf .exit) ≡ written (now (buf .entry)) at (bits 64 value) ⌝ }
+{
+    let i = at / 8;
+    let off = at % 8;
+    if off == 0 {
+        words::store(buf, i, 8, value);
+        return;
+    }
+    let before = (buf[i] >> (8 - off)) as u64;
+    words::store(buf, i, 8, (before << (64 - off)) + (value >> off));
+    put_first(buf, i + 8, off, (value % 256) as u32);
+}
+
+// The low n bits of a value go to the front of byte i.
+fn put_first(buf: &mut [u8], i: usize, n: usize, value: u32)
+    requires { ⌜ (0 < n) × ((n < 8) × (i < length (now buf))) ⌝ }
+    ensures { λ _. ⌜ now (buf .exit) ≡ written (now (buf .entry)) (8 * i) (bits n value) ⌝ }
+{
+    buf[i] = spliced(buf[i], 0, n, digits(value, n, 0));
+}
+
+// Values go to fields end to end from a bit place on, each at its width. Bits are held back until there are 64.
 pub fn put_fields(buf: &mut [u8], at: usize, widths: &[u8], values: &[u32])
     requires { ⌜ RoomFor (now buf) at (now widths) × (length (now widths) ≡ length (now values)) ⌝ }
     ensures { λ _. ⌜ now (buf .exit) ≡ written (now (buf .entry)) at (spread (now (widths .entry)) (now (values .entry))) ⌝ }
 {
     let mut place = at;
+    let mut held: u64 = 0;
+    let mut count: usize = 0;
     let mut k: usize = 0;
     while k < widths.len() {
         let w = wide(widths[k]);
-        put(buf, place, w, values[k]);
-        place += w;
+        let v = long(values[k]);
+        if count + w < 64 {
+            held = words::joined(held, v, w);
+            count += w;
+        } else {
+            let rest = count + w - 64;
+            put_word(buf, place, words::joined(held, v >> rest, w - rest));
+            place += 64;
+            held = v % (1u64 << rest);
+            count = rest;
+        }
         k += 1;
     }
+    put_long(buf, place, count, held);
 }
 
 // The values of the fields that stand end to end from a bit place on.

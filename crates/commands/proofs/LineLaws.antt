@@ -4,15 +4,13 @@ use Prim.Native.Nat.{ℕ, suc, _+_, _-_, _≤_, _<_}
 use native.Mathlib.Omega.{arith}
 use mathlib.Core.Bool.{Bool, true, false, cond, _&&_}
 use mathlib.Core.List.{List, [], _∷_}
-use mathlib.Core.Path.{_≡_, refl, ap, ap₂, subst, _∙_}
-use borrow.Author.Tests.{leb-true, ltb-true}
-use lib.Dec.{eqb, leb, ltb}
+use mathlib.Core.Path.{_≡_, refl, ap, ap₂, _∙_}
+use borrow.Author.Tests.{leb-true}
+use lib.Dec.{eqb, leb}
 use lib.ListN.{length, getD, take, drop, length-drop, drop-of-length-le}
 use lib.Seq.{drop-drop}
-use Rattle.commands.specs.declared.Command.{Command}
-use Rattle.commands.specs.declared.Command.the-variants.{Up, Down, Receive, Malformed}
-use Rattle.commands.specs.Commands.{onFirst, linesOf, toNewline, numberOf, inRange, named, commandOf, headOf}
-use Rattle.commands.proofs.NumberLaws.{and-left, and-right}
+use Rattle.commands.specs.Commands.{onFirst, linesOf, toNewline, numberOf, inRange, headOf}
+use Rattle.commands.proofs.NumberLaws.{and-right}
 
 -- ---- the lines
 
@@ -49,45 +47,7 @@ lines-at bs at r h e =
     let behind : drop (suc t) (drop at bs) ≡ drop (r + 1) bs = drop-drop (suc t) at bs ∙ ap (λ k. drop k bs) next in
     lines-next (drop at bs) long ∙ ap₂ (λ k l. take k (drop at bs) ∷ linesOf l) size behind
 
--- ---- what a line names
-
--- numbers below 100
-abbrev pub Small : Command → Type 0
-Small (Up u v) = (u < 100) × (v < 100)
-Small (Down u v) = (u < 100) × (v < 100)
-Small (Receive u v) = (u < 100) × (v < 100)
-Small Malformed = Unit {0}
-
-small-of : (u v : ℕ) (t a b c : Bool) → (t ≡ true → (u < 100) × (v < 100))
-    → Small (cond t (cond a (Up u v) (cond b (Down u v) (cond c (Receive u v) Malformed))) Malformed)
-small-of u v false a b c h = tt
-small-of u v true true b c h = h refl
-small-of u v true false true c h = h refl
-small-of u v true false false true h = h refl
-small-of u v true false false false h = tt
-
-named-small : (kind u v : ℕ) → Small (named kind u v)
-unfolding named
-named-small kind u v =
-    small-of u v (ltb u 100 && ltb v 100) (eqb kind 85) (eqb kind 68) (eqb kind 77)
-    (λ e. (ltb-true u 100 (and-left (ltb u 100) (ltb v 100) e), ltb-true v 100 (and-right (ltb u 100) (ltb v 100) e)))
-
-pub command-numbers : (l : List ℕ) → Small (commandOf l)
-unfolding commandOf
-command-numbers l = go (eqb (getD l 1 0) 32) _ (named-small (getD l 0 0) _ _)
-  where
-    go : (t : Bool) (r : Command) → Small r → Small (cond t r Malformed)
-    go true r h = h
-    go false r h = tt
-
-pub up-numbers : (l : List ℕ) (u v : ℕ) → commandOf l ≡ Up u v → (u < 100) × (v < 100)
-up-numbers l u v e = subst Small e (command-numbers l)
-
-pub down-numbers : (l : List ℕ) (u v : ℕ) → commandOf l ≡ Down u v → (u < 100) × (v < 100)
-down-numbers l u v e = subst Small e (command-numbers l)
-
-pub receive-numbers : (l : List ℕ) (u v : ℕ) → commandOf l ≡ Receive u v → (u < 100) × (v < 100)
-receive-numbers l u v e = subst Small e (command-numbers l)
+-- ---- the first line
 
 range-high : (n : ℕ) (t : Bool) → (leb 1 n && leb n 16) ≡ t → cond t n 0 ≤ 16
 range-high n true e = leb-true n 16 (and-right (leb 1 n) (leb n 16) e)

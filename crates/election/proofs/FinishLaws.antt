@@ -1,36 +1,33 @@
 -- The end of an event, case by case: 8, 9, or what is written. Each return of `finish` cites one law.
 -- Assumes what the event found (`Chosen`).
-use Prim.Native.Nat.{ℕ, zero, suc, _^_, _<_, _≤_}
+use Prim.Native.Nat.{ℕ, zero, suc, _<_, _≤_}
 use native.Mathlib.Omega.{arith}
-use mathlib.Core.Bool.{Bool, true, false, not, cond, _&&_, _||_, and-false}
-use mathlib.Core.List.{List}
-use mathlib.Core.Logic.{_⊎_, inl, inr}
+use mathlib.Core.Bool.{Bool, true, false, and-false}
 use mathlib.Core.Path.{_≡_, refl, sym, ap, _∙_}
-use lib.Dec.{eqb, ltb}
+use lib.Dec.{ltb}
 use lib.ListN.{length}
 use borrow.Author.Tests.{ne-eqb, ltb-true}
 use Rattle.decision.specs.After.{seen, afterRule, sendsTo}
-use Rattle.decision.specs.declared.After.{After}
 use Rattle.decision.specs.declared.After.the-variants.{New, TooDeep}
 use Rattle.height.specs.declared.Height.{Height}
 use Rattle.height.proofs.OrderLaws.{clash}
 use Rattle.nodeset.specs.NodeSet.{member, setOf}
 use Rattle.protocol.specs.Answer.{saidRule, saidRefused}
 use Rattle.protocol.specs.Component.{Node}
-use Rattle.protocol.specs.Functions.{every, update}
-use Rattle.protocol.specs.Network.{Message, capacity}
+use Rattle.protocol.specs.Functions.{every}
+use Rattle.protocol.specs.Network.{capacity}
 use Rattle.protocol.specs.Refusal.{tooDeep, hasRoom, crowded}
-use Rattle.protocol.specs.Step.{Event, home, Local, carried, heightAfter, cleared, commit}
+use Rattle.protocol.specs.Step.{home, carried, heightAfter, cleared}
 use Rattle.protocol.specs.declared.Rule.{Rule}
-use Rattle.protocol.proofs.TestsLaws.{Choice, yes!, no!, choice, equal?, update-at, every-at}
+use Rattle.protocol.proofs.TestsLaws.{Choice, yes!, no!, choice, update-at, every-at}
 use Rattle.tables.specs.Cell.{count, queue}
-use Rattle.tables.specs.Load.{load, tablesOf}
+use Rattle.tables.specs.Load.{load}
 use Rattle.tables.specs.Tables.{Tables, nodeOf, channelOf}
 use Rattle.tables.proofs.CellLaws.{messages-length}
 use Rattle.tables.proofs.Wordy.{Wordy}
-use Rattle.election.specs.Cells.{Takes, clearedCells, roomFor}
+use Rattle.election.specs.Cells.{clearedCells, roomFor}
 use Rattle.election.specs.Finish.{Between, Silent, Chosen, eventOf, localOf, finished}
-use Rattle.election.specs.StepOn.{Outcome, outcome}
+use Rattle.election.specs.StepOn.{outcome}
 use Rattle.election.specs.Written.{Written}
 use Rattle.election.specs.declared.Kind.{Kind}
 use Rattle.election.specs.declared.Kind.the-variants.{Raised, Dropped, Received}
@@ -129,10 +126,6 @@ module _ (kind : Kind) (n : ℕ) (t : Tables) (u v N F : ℕ) (rule : Rule) (ch 
       rw (uncleared y e) (ltb-true (count (channelOf n u y (t .channels))) capacity q)
 
   -- ---- the three ends
-
-  new-height : localOf n t u v clock N F view rule .row u ≡ heightAfter n (member N) (seen (nodeOf n u (t .nodes)) v view) u v clock rule
-  unfolding carried
-  new-height = update-at (seen (nodeOf n u (t .nodes)) v view) u _
 
   pub ends-deep : afterRule n (member N) (seen (nodeOf n u (t .nodes)) v view) u v clock rule ≡ TooDeep
       → outcome (saidRefused 8 0 0) t ≡ finished n (eventOf kind u v) (localOf n t u v clock N F view rule) t

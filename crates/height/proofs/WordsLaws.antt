@@ -5,11 +5,10 @@ use mathlib.Core.Bool.{Bool, true, false}
 use mathlib.Core.Path.{_≡_, refl, ap, sym, _∙_}
 use mathlib.Core.List.{List, [], _∷_}
 use native.Mathlib.Nat.{add-suc, suc-add, add-zero, zero-add}
-use native.Mathlib.Numerals.{towards-suc}
 use native.Mathlib.Omega.{arith}
 use borrow.Author.Tests.{lt-ltb, le-ltb, ltb-false}
 use lib.ListN.{length, getD, set, length-set}
-use lib.Seq.{sets, length-sets, getD-set-same, getD-set-other, set-getD}
+use lib.Seq.{sets, length-sets, getD-set-same, getD-set-other}
 use lib.Dec.{ltb}
 use lib.IntN.{ℤ, pos, negsuc, negℤ, natAbs}
 use lib.Signed.{mag}
@@ -116,8 +115,3 @@ module _ (ws : List ℕ) (i : ℕ) (h : Height) where
   pub load-past : (j : ℕ) → i + 7 ≤ j → heightAt (storedAt ws i h) j ≡ heightAt ws j
   unfolding storedAt heightWords
   load-past j hj = same-words _ ws j j (λ k q. sets-past ws i (heightWords h) (j + k) 0 (omega arith))
-
--- what was loaded is stored back
-pub stored-loaded : (ws : List ℕ) (i : ℕ) → getD ws (i + 3) 0 < 4294967296 → storedAt ws i (heightAt ws i) ≡ ws
-unfolding storedAt heightWords heightAt
-stored-loaded ws i f = rw (word-signed (getD ws (i + 3) 0) f) (simp (towards-suc, natAbs-neg, set-getD))

@@ -17,7 +17,7 @@ use Rattle.tables.proofs.RowsLaws.{row-fits, part-length}
 use Rattle.tables.proofs.RowsMore.{rows-more, rows-same, length-rows, row-first, row-next, rows-at}
 use Rattle.image.specs.Image.{nodeBits, messageBits}
 use Rattle.image.specs.Parts.{heightsBits, rowBits, messagesBits, cellBits, heightsFrom, rowFrom, cellFrom}
-use Rattle.image.specs.Places.{fieldIn, nodePlace, heightFrom, messagesOf, channelFrom, channelPlace, recordsIn}
+use Rattle.image.specs.Places.{fieldIn, nodePlace, heightFrom, messagesOf, channelFrom, recordsIn}
 use Rattle.image.specs.Records.{Records, rowOf, placesOf, cellOf}
 use Rattle.image.specs.Widths.{recordBits, recordOf, widthsOf, heightWidth, messageWidth, nodeWidth}
 use Rattle.image.proofs.ChannelLaws.{length-messages-of}
@@ -148,10 +148,6 @@ run-from-more d m w n l at =
 pub row-read : (h d n : ℕ) (l : List ℕ) (u : ℕ) → rowFrom d n l (nodePlace h d n u) ≡ rowOf n (recordsIn h d n l) u
 unfolding rowFrom rowOf recordsIn heightsFrom
 row-read h d n l u = refl
-
-pub cell-read : (h d n : ℕ) (l : List ℕ) (u v : ℕ) → cellFrom d l (channelPlace h d n l u v) ≡ cellOf (recordsIn h d n l .channel u v)
-unfolding cellFrom recordsIn
-cell-read h d n l u v = refl
 
 pub heights-run : (d n : ℕ) (l : List ℕ) (at : ℕ) → heightsFrom d n l at ≡ runFrom d 7 (heightWidth d) n l (at + 64)
 unfolding heightsFrom heightFrom runFrom

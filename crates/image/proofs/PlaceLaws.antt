@@ -3,14 +3,13 @@
 use Prim.Native.Nat.{ℕ, suc, _+_, _-_, _*_, _≤_, _<_}
 use native.Mathlib.Nat.{le-trans, le-of-eq, suc-mul, mul-le-mul-right, zero-add}
 use native.Mathlib.Omega.{arith}
-use mathlib.Core.Path.{_≡_, refl, sym, _∙_}
+use mathlib.Core.Path.{_≡_, sym, _∙_}
 use mathlib.Core.List.{List}
-use borrow.Author.Tests.{ne-eqb}
 use lib.Dec.{eqb}
 use Rattle.protocol.proofs.TestsLaws.{Choice, yes!, no!, choice}
-use Rattle.image.specs.Places.{fieldIn, nodePlace, walked, channelNext, channelsNext}
+use Rattle.image.specs.Places.{nodePlace, walked, channelNext, channelsNext}
 use Rattle.image.specs.Places.{channelsPlace, channelsFromPlace, channelPlace, imageEnd}
-use Rattle.image.specs.Widths.{messageWidth, nodeWidth}
+use Rattle.image.specs.Widths.{nodeWidth}
 use Rattle.image.proofs.ChannelLaws.{next-same, next-other}
 use Rattle.image.proofs.WalkLaws.{walked-mono}
 
@@ -36,17 +35,6 @@ walked-le next h k n q b =
 module _ (h d n : ℕ) where
   -- ---- the nodes
 
-  pub node-first : nodePlace h d n 1 ≡ h
-  unfolding nodePlace
-  node-first = omega arith
-
-  pub node-next : (i : ℕ) → nodePlace h d n (suc (suc i)) ≡ nodePlace h d n (suc i) + nodeWidth d n
-  unfolding nodePlace
-  node-next i =
-      let y : suc i - 1 ≡ i = omega arith in
-      let z : suc (suc i) - 1 ≡ suc i = omega arith in
-      rw (y, z) (omega (arith, suc-mul i (nodeWidth d n)))
-
   pub node-in : (i : ℕ) → i < n → nodePlace h d n (suc i) + nodeWidth d n ≤ channelsPlace h d n
   unfolding nodePlace channelsPlace
   node-in i b =
@@ -57,14 +45,6 @@ module _ (h d n : ℕ) where
   -- ---- the channels
 
   module _ (l : List ℕ) where
-    pub channels-first : channelsFromPlace h d n l 1 ≡ channelsPlace h d n
-    unfolding channelsFromPlace walked
-    channels-first = refl
-
-    pub channel-first : (u : ℕ) → channelPlace h d n l u 1 ≡ channelsFromPlace h d n l u
-    unfolding channelPlace walked
-    channel-first u = refl
-
     pub channel-next : (u j : ℕ) → channelPlace h d n l u (suc (suc j)) ≡ channelNext d l u (suc j) (channelPlace h d n l u (suc j))
     unfolding channelPlace walked
     channel-next u j =
@@ -84,10 +64,6 @@ module _ (h d n : ℕ) where
     pub channel-last : (u : ℕ) → channelPlace h d n l u (suc n) ≡ walked (channelNext d l u) n (channelsFromPlace h d n l u)
     unfolding channelPlace
     channel-last u = let z : suc n - 1 ≡ n = omega arith in rw z
-
-    pub channels-last : channelsFromPlace h d n l (suc n) ≡ imageEnd h d n l
-    unfolding channelsFromPlace imageEnd
-    channels-last = let z : suc n - 1 ≡ n = omega arith in rw z
 
     pub start-in : channelsPlace h d n ≤ imageEnd h d n l
     unfolding imageEnd walked
@@ -113,9 +89,3 @@ module _ (h d n : ℕ) where
         le-trans (le-of-eq (sym (channel-next (suc i) j)))
         (le-trans (channel-before (suc i) (suc j) c)
         (le-trans (le-of-eq (channel-last (suc i) ∙ sym (channels-next i))) (channels-in (suc i) b)))
-
-    pub channel-in : (i j : ℕ) → i < n → j < n → (suc i ≡ suc j → ⊥)
-        → channelPlace h d n l (suc i) (suc j) + 4 + fieldIn l (channelPlace h d n l (suc i) (suc j)) 4 * messageWidth d ≤ imageEnd h d n l
-    channel-in i j b c ne =
-        le-trans (le-of-eq (sym (next-other d l (suc i) (suc j) (channelPlace h d n l (suc i) (suc j)) (ne-eqb (suc i) (suc j) ne))))
-        (channel-passed-in i j b c)

@@ -1,17 +1,16 @@
--- A loop that takes the lowest node of a set, acts on it and removes it makes the walk over the set, and the set gets smaller each time.
+-- For a loop that takes the lowest node of a set and removes it: which node is the lowest, and that the set gets smaller each time.
 -- Assumes nothing.
 use Prim.Native.Nat.{ℕ, zero, suc, _+_, _/_, _%_, _^_, _≤_, _<_}
 use native.Mathlib.Omega.{arith}
 use mathlib.Core.Bool.{Bool, true, false, cond, and-true, and-false}
-use mathlib.Core.Path.{_≡_, refl, sym, ap, _∙_}
-use lib.Count.{ones, trailingZeros, under}
+use mathlib.Core.Path.{_≡_, refl, sym, _∙_}
+use lib.Count.{trailingZeros, under}
 use lib.Dec.{eqb}
 use lib.Pow.{pow-mono, pow-pos}
-use borrow.Author.Tests.{eqb-true, eqb-false, eq-eqb, ne-eqb}
+use borrow.Author.Tests.{eqb-false, eq-eqb, ne-eqb}
 use Rattle.nodeset.specs.NodeSet.{member, setOf, sizeOf, sameNode, inButNot, leastFrom, lowest}
-use Rattle.nodeset.specs.Walk.{walkFrom, walk}
 use Rattle.nodeset.proofs.Members.{member-zero, member-one, member-half, member-range, member-setOf-all}
-use Rattle.nodeset.proofs.Members.{none-above, none-in-zero, setOf-member, ones-setOf, one-more}
+use Rattle.nodeset.proofs.Members.{none-above, setOf-member, one-more}
 
 -- ---- the lowest node
 
@@ -124,51 +123,5 @@ smaller s (suc k) m h =
     (λ j ne. sym (butNot-other (member s) (suc k) j ne)) in
     (sym (e .1), omega (arith, e .0, setOf-member 16 s h, pow-pos k))
 
-pub ones-less : (s k : ℕ) → member s k ≡ true → s < 2 ^ 16 → ones (setOf 16 (inButNot (member s) (sameNode k))) + 1 ≡ ones s
-ones-less s k m h =
-    ap (λ (x : ℕ). x + 1) (ones-setOf 16 _) ∙ smaller s k m h .0 ∙ sym (ones-setOf 16 (member s)) ∙ ap ones (setOf-member 16 s h)
-
 pub without-less : (s k : ℕ) → member s k ≡ true → s < 2 ^ 16 → setOf 16 (inButNot (member s) (sameNode k)) < s
 without-less s k m h = smaller s k m h .1
-
--- ---- the walk
-
-module _ {X : Type 0} (f : ℕ → X → X) where
-  -- a walk looks at the members from v on, and at nothing else
-  pub walk-agree : (k v a b : ℕ) (x : X) → ((j : ℕ) → v ≤ j → member a j ≡ member b j) → walkFrom f k v a x ≡ walkFrom f k v b x
-  unfolding walkFrom
-  walk-agree zero v a b x h = refl
-  walk-agree (suc k) v a b x h =
-      rw (h v (omega arith)) (walk-agree k (suc v) a b (cond (member b v) (f v x) x) (λ j l. h j (omega arith)))
-
-  -- r is s without its lowest node w
-  from-step : (k v n s r w : ℕ) (x : X) → LowestNode n s w → member r w ≡ false → ((j : ℕ) → (j ≡ w → ⊥) → member r j ≡ member s j)
-      → v ≤ w → w < v + k → walkFrom f k v s x ≡ walkFrom f k v r (f w x)
-  unfolding walkFrom
-  from-step zero v n s r w x o p q l u = absurd (omega arith)
-  from-step (suc k) v n s r w x o p q l u = go (eqb v w) refl (λ g. from-step k (suc v) n s r w x o p q g (omega arith))
-    where
-      go : (b : Bool) → eqb v w ≡ b → (v < w → walkFrom f k (suc v) s x ≡ walkFrom f k (suc v) r (f w x))
-          → walkFrom f k (suc v) s (cond (member s v) (f v x) x) ≡ walkFrom f k (suc v) r (cond (member r v) (f v (f w x)) (f w x))
-      go true e rest =
-          rw (eqb-true v w e, o .is-member, p) (walk-agree k (suc w) s r (f w x) (λ j g. sym (q j (omega arith))))
-      go false e rest =
-          let ne = eqb-false v w e in
-          let m : member s v ≡ false = o .none-below v (omega arith) in
-          rw (q v ne, m) (rest (omega arith))
-
-  from-none : (k v : ℕ) (x : X) → walkFrom f k v 0 x ≡ x
-  unfolding walkFrom
-  from-none zero v x = refl
-  from-none (suc k) v x = rw (none-in-zero v) (from-none k (suc v) x)
-
-pub walk-none : {X : Type 0} (f : ℕ → X → X) (n : ℕ) (x : X) → walk f n 0 x ≡ x
-walk-none f n x = from-none f n 1 x
-
-pub walk-step : {X : Type 0} (f : ℕ → X → X) (n s : ℕ) (x : X) → 0 < s → s < 2 ^ n → n ≤ 16
-    → walk f n s x ≡ walk f n (setOf 16 (inButNot (member s) (sameNode (lowest s)))) (f (lowest s) x)
-walk-step f n s x p h l =
-    let o = lowest-in n s p h l in
-    let e = member-without s (lowest s) (omega (arith, pow-mono l)) in
-    from-step f n 1 n s _ (lowest s) x o (e (lowest s) ∙ butNot-same (member s) (lowest s))
-    (λ j ne. e j ∙ butNot-other (member s) (lowest s) j ne) (o .from-one) (omega (arith, o .at-most))

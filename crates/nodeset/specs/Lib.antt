@@ -1,3 +1,2 @@
 -- Definitions that the contracts of `nodeset` cite.
 pub mod NodeSet
-pub mod Walk

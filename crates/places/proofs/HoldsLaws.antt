@@ -1,11 +1,11 @@
 -- The rules of a height and of two sets as the code tests them: ranges that every word keeps are left out.
 -- Assumes nothing.
-use Prim.Native.Nat.{ℕ, zero, suc, _*_, _%_, _^_, _≤_, _<_}
+use Prim.Native.Nat.{ℕ, zero, suc, _-_, _*_, _%_, _^_, _≤_, _<_}
 use native.Mathlib.Omega.{arith}
-use mathlib.Core.Bool.{Bool, true, false, not, _&&_, and-assoc}
+use mathlib.Core.Bool.{Bool, true, false, not, _&&_, _||_, and-assoc, and-true, and-false}
 use mathlib.Core.Logic.{_⊎_, inl, inr}
-use mathlib.Core.Path.{_≡_, refl, _∙_}
-use lib.Dec.{eqb, ltb, leb, lit<}
+use mathlib.Core.Path.{_≡_, refl, sym, ap, _∙_}
+use lib.Dec.{eqb, eqb·suc-zero, ltb, leb, lit<}
 use lib.IntN.{ℤ, pos, negsuc, negℤ}
 use lib.Pow.{pow-mono, shl-exact}
 use lib.Signed.{leZ}
@@ -13,6 +13,7 @@ use borrow.Author.Tests.{ltb-true, le-leb}
 use Rattle.height.specs.Clock.{lastTime}
 use Rattle.height.specs.Words.{Negated}
 use Rattle.height.specs.declared.Height.{Height}
+use Rattle.height.specs.declared.ReferenceLevel.{ReferenceLevel}
 use Rattle.nodeset.specs.NodeSet.{member, within, apart}
 use Rattle.nodeset.proofs.Members.{none-above}
 use Rattle.protocol.specs.Functions.{every}
@@ -20,6 +21,34 @@ use Rattle.protocol.specs.Holds.{levelHolds, deltaHolds, pairHolds, heightHolds
 use Rattle.protocol.proofs.TestsLaws.{and-left, and-right, equal?}
 
 -- ---- a height
+
+-- the test of a level of search time t, originator o and bit r
+levelTest : ℕ → ℕ → ℕ → ℕ → Bool
+levelTest n t o r = leb o n && leb r 1 && (eqb o 0 && (eqb t 0 && eqb r 0) || not (eqb o 0) && not (eqb t 0))
+
+none-test : (n o r : ℕ) → (eqb o 0 && eqb r 0) ≡ levelTest n 0 o r
+unfolding levelTest
+none-test n zero zero = rw (le-leb 0 n (omega arith))
+none-test n zero (suc r) = rw (eqb·suc-zero r) (sym (and-false (leb 0 n && leb (suc r) 1)))
+none-test n (suc o) r = rw (eqb·suc-zero o) (sym (and-false (leb (suc o) n && leb r 1)))
+
+some-test : (n t o r : ℕ) → (leb 1 o && leb o n && leb r 1) ≡ levelTest n (suc t) o r
+unfolding levelTest
+some-test n t zero r = rw (eqb·suc-zero t) (sym (and-false (leb 0 n && leb r 1)))
+some-test n t (suc o) r = rw (eqb·suc-zero t, eqb·suc-zero o, le-leb 1 (suc o) (omega arith)) (sym (and-true (leb (suc o) n && leb r 1)))
+
+-- without a search, originator and bit are 0
+pub level-none : (n : ℕ) (l : ReferenceLevel) → l .tau .0 ≡ 0 → (eqb (l .oid) 0 && eqb (l .r) 0) ≡ levelHolds n l
+unfolding levelHolds levelTest
+level-none n l e = rw e (none-test n (l .oid) (l .r))
+
+-- with a search there is an originator
+pub level-some : (n : ℕ) (l : ReferenceLevel) → l .tau .0 ≤ lastTime → 0 < l .tau .0
+    → (leb 1 (l .oid) && leb (l .oid) n && leb (l .r) 1) ≡ levelHolds n l
+unfolding levelHolds levelTest
+level-some n l h p =
+    let e : l .tau .0 ≡ suc (l .tau .0 - 1) = omega arith in
+    rw (le-leb (l .tau .0) lastTime h) (some-test n (l .tau .0 - 1) (l .oid) (l .r) ∙ ap (λ (t : ℕ). levelTest n t (l .oid) (l .r)) (sym e))
 
 pub negated-range : (z : ℤ) → Negated z → (leZ (negℤ (pos lastTime)) z && leZ z (pos 0)) ≡ true
 unfolding Negated

@@ -15,9 +15,10 @@ fn level_holds(n: u32, l: ReferenceLevel) -> bool
     let tau = l.tau.0;
     let oid = l.oid;
     let r = l.r;
-    let none = (oid == 0) & ((tau == 0) & (r == 0));
-    let some = (oid != 0) & (tau != 0);
-    (oid <= n) & (r <= 1) & (none | some)
+    if tau == 0 {
+        return (oid == 0) & (r == 0);
+    }
+    (1 <= oid) & (oid <= n) & (r <= 1)
 }
 
 fn delta_holds(d: i32) -> bool

@@ -37,10 +37,6 @@ messages-nth zero ws i m d l = absurd (omega arith)
 messages-nth (suc k) ws i zero d l = ap (messageAt ws) (omega arith)
 messages-nth (suc k) ws i (suc m) d l = messages-nth k ws (i + 8) m d (omega arith) ∙ ap (messageAt ws) (omega arith)
 
-pub queue-nth : (cell : List ℕ) (m : ℕ) (d : Message) → m < count cell → getD (queue cell) m d ≡ messageAt cell (1 + m * 8)
-unfolding queue
-queue-nth cell m d l = messages-nth (count cell) cell 1 m d l
-
 places-back : (k c : ℕ) (ws : List ℕ) (i : ℕ) → i + k * 8 ≤ length ws → c ≤ k
     → ((j : ℕ) → j < k → getD ws (i + (j * 8 + 3)) 0 < 4294967296) → ((j : ℕ) → c * 8 ≤ j → j < k * 8 → getD ws (i + j) 0 ≡ 0)
     → part i (k * 8) ws ≡ placeWords k (messagesAt c ws i)

@@ -1,21 +1,16 @@
 -- Heights that their seven words give back. Assumes nothing.
 -- Every loaded height is one, and so is every height within the ranges of document 01.
-use Prim.Native.Nat.{ℕ, _+_, _<_}
+use Prim.Native.Nat.{ℕ, _<_}
 use native.Mathlib.Omega.{arith}
-use mathlib.Core.Bool.{Bool, true, false, cond}
 use mathlib.Core.Path.{_≡_, refl, ap}
-use lib.Dec.{ltb}
 use lib.IntN.{ℤ, pos, negsuc, negℤ, natAbs}
-use lib.ListN.{getD}
 use lib.Signed.{mag}
-use mathlib.Core.List.{List}
-use borrow.Author.Tests.{ltb-true, ltb-false}
-use Rattle.height.specs.Height.{zeroHeight, selfElected}
-use Rattle.height.specs.Words.{heightAt, deltaOf, deltaWord}
+use borrow.Author.Tests.{ltb-false}
+use Rattle.height.specs.Height.{zeroHeight}
+use Rattle.height.specs.Words.{deltaWord}
 use Rattle.height.specs.declared.Height.{Height}
 use Rattle.height.proofs.WordsLaws.{natAbs-neg}
 use Rattle.protocol.proofs.Ranges.{HeightFits, DeltaFits}
-use Rattle.protocol.proofs.TestsLaws.{Choice, yes!, no!, choice}
 
 pub record Wordy (h : Height) : Type 0 where
   pub delta : mag (h .delta) < 2147483648
@@ -25,19 +20,6 @@ pub word-lt : (z : ℤ) → mag z < 2147483648 → deltaWord z < 4294967296
 unfolding deltaWord
 word-lt (pos a) h = omega arith
 word-lt (negsuc a) h = omega arith
-
--- a height that was loaded
-pub loaded-wordy : (ws : List ℕ) (i : ℕ) → Wordy (heightAt ws i)
-unfolding heightAt deltaOf
-loaded-wordy ws i =
-    record { delta = signed (getD ws (i + 3) 0); nlts = ap (λ (k : ℕ). negℤ (pos k)) (natAbs-neg (getD ws (i + 4) 0)) }
-  where
-    signed : (x : ℕ) → mag (deltaOf x) < 2147483648
-    signed x = go (choice (ltb x 2147483648))
-      where
-        go : Choice (ltb x 2147483648) → mag (deltaOf x) < 2147483648
-        go (yes! e) = rw e (ltb-true x 2147483648 e)
-        go (no! e) = rw e (let q = ltb-false x 2147483648 e in omega arith)
 
 pub zero-wordy : Wordy zeroHeight
 zero-wordy = record { delta = omega arith; nlts = refl }

@@ -87,22 +87,15 @@ pub fn fill_zero(words: &mut [u32])
     }
 }
 
-// Whether every word is zero. The sum of all words is looked at once, so that the compiler can add several at a time.
+// Whether every word is zero. All words are joined and looked at once, so that the compiler can take several at a time.
 pub fn all_zero(words: &[u32]) -> bool
-    requires { ⌜ length (now words) ≤ 65536 ⌝ }
     ensures { λ r. ⌜ r ≡ allZero (now (words .entry)) ⌝ }
 {
-    let mut sum: u64 = 0;
+    let mut seen: u32 = 0;
     let mut i = 0;
     while i < words.len() {
-        sum += wide(words[i]);
+        seen |= words[i];
         i += 1;
     }
-    sum == 0
-}
-
-fn wide(x: u32) -> u64
-    ensures { λ r. ⌜ r ≡ x ⌝ }
-{
-    x as u64
+    seen == 0
 }

@@ -108,13 +108,6 @@ length-digits-le (suc k) x =
 pub length-decimal-le : (x : ℕ) → length (decimal x) ≤ 10
 length-decimal-le x = length-digits-le 10 x
 
--- and at least one
-pub length-decimal-pos : (x : ℕ) → 1 ≤ length (decimal x)
-length-decimal-pos x =
-    oneOrMore (1 ≤ length (decimal x)) x
-    (λ i. rw (digits-one 9 x i) (omega arith))
-    (λ i. rw (digits-more 9 x i) (simp length-append (omega arith)))
-
 pub length-front-le : (x : ℕ) → length (front x) ≤ 10
 length-front-le x =
     oneOrMore (length (front x) ≤ 10) x

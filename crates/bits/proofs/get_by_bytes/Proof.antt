@@ -1,12 +1,12 @@
--- `bits::get` meets its contract. The invariant: the value is the field of the bits read so far.
+-- `bits::get_by_bytes` meets its contract. The invariant: the value is the field of the bits read so far.
 -- The measure is how many bits are left. Assumes nothing.
 use Prim.Native.Nat.{_+_, _-_, _*_, _/_, _%_, _^_, _≤_}
 use native.Mathlib.Omega.{arith}
 use mathlib.Core.Path.{_≡_, sym, ap, _∙_}
 use Rattle.bits.specs.Bits.{field}
 use Rattle.bits.proofs.Turns.{get-turn, field-fits, field-none}
-use Rattle.bits.proofs.get.Statement.{statement}
-use Rattle.bits.proofs.get.Tie as tie
+use Rattle.bits.proofs.get_by_bytes.Statement.{statement}
+use Rattle.bits.proofs.get_by_bytes.Tie as tie
 
 abbrev Inv-loop : tie.InvT-loop
 Inv-loop bytes at width v₀ done₀ v done = (done ≤ width) × (v ≡ field bytes at done)
@@ -93,8 +93,8 @@ loop-again c = (omega arith, more c)
 returns : tie.Need-returns Inv-loop μ-loop
 returns c = c .before .loop .inv .1 ∙ ap (field (c .before .before .before .args .bytes .now) (c .before .before .before .args .at)) (omega arith)
 
-pub get-spec : {M : Type 1} → statement M
-get-spec =
+pub get-by-bytes-spec : {M : Type 1} → statement M
+get-by-bytes-spec =
     tie.close
     (tie.spec
     Inv-loop

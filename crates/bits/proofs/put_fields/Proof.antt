@@ -1,104 +1,137 @@
--- `bits::put_fields` meets its contract. The invariant: the first k values are written, each at its width, and the place is behind them.
--- The measure is how many are left. Assumes nothing.
-use Prim.Native.Nat.{ℕ, _+_, _-_, _≤_, _<_}
+-- `bits::put_fields` meets its contract. The invariant (`Holding`): the bits held back and the fields still to come, written at the place, are the whole.
+-- The measure is how many fields are left. Assumes nothing.
+use Prim.Native.Nat.{ℕ, _+_, _-_, _/_, _%_, _≤_, _<_}
+use native.Mathlib.Nat.{lt-of-lt-of-le}
 use native.Mathlib.Omega.{arith}
-use mathlib.Core.Path.{_≡_, refl, sym, ap, ap₂, _∙_}
-use mathlib.Core.List.{List}
-use lib.ListN.{length, getD, take}
-use lib.Seq.{take-all}
-use Rattle.bits.specs.Bits.{bits, written, spread, total}
-use Rattle.bits.proofs.Bytes.{written-none, length-written}
-use Rattle.bits.proofs.Fields.{total-in, total-more, put-more}
+use mathlib.Core.Logic.{⊎-elim}
+use mathlib.Core.Path.{_≡_, ap, _∙_}
+use lib.ListN.{length}
+use lib.Pow.{pow-pos, pow-mono}
+use Rattle.bits.specs.Bits.{bits, written}
+use Rattle.bits.proofs.Turns.{one-shl}
+use Rattle.bits.proofs.Bytes.{length-written}
+use Rattle.bits.proofs.Holding.{Holding, holding-start, holding-room, holding-narrow, holding-more, holding-full, holding-as, holding-all, holding-end}
 use Rattle.bits.proofs.put_fields.Statement.{statement}
 use Rattle.bits.proofs.put_fields.Tie as tie
 
 abbrev Inv-loop : tie.InvT-loop
-Inv-loop buf₀ at widths values place₀ k₀ buf place k =
-    (k ≤ length widths)
-    × ((place ≡ at + total (take k widths)) × ((length buf ≡ length buf₀) × (buf ≡ written buf₀ at (spread (take k widths) (take k values)))))
+Inv-loop buf₀ at widths values place₀ held₀ count₀ k₀ buf place held count k = Holding widths values buf₀ at buf place held count k
 
 abbrev μ-loop : tie.MeasureT-loop
-μ-loop buf₀ at widths values place₀ k₀ buf place k = length widths - k
+μ-loop buf₀ at widths values place₀ held₀ count₀ k₀ buf place held count k = length widths - k
 
--- src/lib.rt:82:5
 loop-holds : tie.Need-loop-holds Inv-loop μ-loop
-unfolding total spread
-loop-holds c =
-    let a = c .before .before .before .args in
-    (omega arith, (omega arith, (refl, sym (written-none (a .buf .now) (a .at) (λ i. c .before .before .slice-known .given i .fits) (omega arith)))))
+loop-holds c = holding-start _ _ _ _
 
--- src/lib.rt:83:22
 shared-slice-read-wide : tie.Need-shared-slice-read-wide Inv-loop μ-loop
 shared-slice-read-wide c = omega arith
 
--- src/lib.rt:83:13
 wide-requires : tie.Need-wide-requires Inv-loop μ-loop
-wide-requires c κs = omega arith
+wide-requires c κs = tt
 
--- src/lib.rt:84:33
-mul-put : tie.Need-mul-put Inv-loop μ-loop
-mul-put c = omega arith
+mul-long : tie.Need-mul-long Inv-loop μ-loop
+mul-long c = omega arith
 
--- src/lib.rt:84:33
-shared-slice-read-put : tie.Need-shared-slice-read-put Inv-loop μ-loop
-shared-slice-read-put c = omega arith
+shared-slice-read-long : tie.Need-shared-slice-read-long Inv-loop μ-loop
+shared-slice-read-long c = omega arith
 
--- src/lib.rt:84:9
-put-requires : tie.Need-put-requires Inv-loop μ-loop
-put-requires c κs =
-    let a = c .before .before .before .before .before .before .before .before .before .args in
-    let k = c .before .before .before .before .before .loop .k in
-    let t = total-in (a .widths .now) k (omega arith) in
-    let r = c .before .before .before .before .before .before .before .before .before .pre .0 .narrow k in
-    omega arith
+long-requires : tie.Need-long-requires Inv-loop μ-loop
+long-requires c κs = tt
 
--- src/lib.rt:85:9
+add-if1 : tie.Need-add-if1 Inv-loop μ-loop
+add-if1 c = omega (arith, c .before .before .before .before .before .before .before .before .before .pre .0 .narrow (c .before .before .before .before .before .loop .k), c .before .before .wide .ensures, c .before .before .before .before .before .loop .inv .few)
+
+joined-requires : tie.Need-joined-requires Inv-loop μ-loop
+joined-requires c κs =
+    let n = holding-narrow (c .before .before .before .before .before .before .loop .inv) (c .before .before .before .before .before .before .before .before .before .before .pre .1) (c .before .before .before .before .before .before .before .before .before .before .pre .0) (c .before .before .before .before .before .loop-test .taken) (c .before .before .before .wide .ensures) (c .before .long .ensures) in
+    (n, lt-of-lt-of-le (c .before .before .before .before .before .before .loop .inv .small) (pow-mono (omega (arith, c .if1 .taken))))
+
+add-count : tie.Need-add-count Inv-loop μ-loop
+add-count c = omega (arith, c .before .if1 .taken)
+
+add-rest : tie.Need-add-rest Inv-loop μ-loop
+add-rest c = omega (arith, c .before .before .before .before .before .before .before .before .before .before .pre .0 .narrow (c .before .before .before .before .before .before .loop .k), c .before .before .before .wide .ensures, c .before .before .before .before .before .before .loop .inv .few)
+
+sub-rest : tie.Need-sub-rest Inv-loop μ-loop
+sub-rest c = omega (arith, c .if1 .left)
+
+shr-joined : tie.Need-shr-joined Inv-loop μ-loop
+shr-joined c = omega (arith, c .before .before .before .before .before .before .before .before .before .before .before .pre .0 .narrow (c .before .before .before .before .before .before .before .loop .k), c .before .before .before .before .wide .ensures, c .before .before .before .before .before .before .before .loop .inv .few)
+
+sub-joined : tie.Need-sub-joined Inv-loop μ-loop
+sub-joined c = omega (arith, c .before .before .before .before .before .before .before .loop .inv .few)
+
+joined-requires-2 : tie.Need-joined-requires-2 Inv-loop μ-loop
+joined-requires-2 c κs =
+    let w = c .before .before .before .before .wide .result in
+    let k = c .before .before .before .before .before .before .before .loop .count in
+    let n : w ≤ 32 = omega (arith, c .before .before .before .before .before .before .before .before .before .before .before .pre .0 .narrow (c .before .before .before .before .before .before .before .loop .k), c .before .before .before .before .wide .ensures) in
+    let e : 64 - (w - (k + w - 64)) ≡ k = omega (arith, c .before .before .before .before .before .before .before .loop .inv .few, c .before .if1 .left) in
+    (omega arith, rw e (c .before .before .before .before .before .before .before .loop .inv .small))
+
+put-word-requires : tie.Need-put-word-requires Inv-loop μ-loop
+put-word-requires c κs =
+    let s = c .before .before .before .before .before .before .before .before .before .before .before .before in
+    let l = c .before .before .before .before .before .before .before .before .loop in
+    let r = holding-room (l .inv) (s .pre .1) (s .pre .0) (c .before .before .before .before .before .before .before .loop-test .taken) (c .before .before .before .before .before .wide .ensures) (c .before .before .before .long .ensures) in
+    omega (arith, r, c .before .before .if1 .left, l .inv .same, s .pre .0 .small, s .pre .0 .inside)
+
 add-place : tie.Need-add-place Inv-loop μ-loop
 add-place c =
-    let a = c .before .before .before .before .before .before .before .before .before .before .before .before .args in
-    let k = c .before .before .before .before .before .before .before .before .loop .k in
-    omega (arith, total-in (a .widths .now) k (omega arith))
+    let s = c .before .before .before .before .before .before .before .before .before .before .before .before .before .before .before in
+    let l = c .before .before .before .before .before .before .before .before .before .before .before .loop in
+    let r = holding-room (l .inv) (s .pre .1) (s .pre .0) (c .before .before .before .before .before .before .before .before .before .before .loop-test .taken) (c .before .before .before .before .before .before .before .before .wide .ensures) (c .before .before .before .before .before .before .long .ensures) in
+    omega (arith, r, c .before .before .before .before .before .if1 .left, s .pre .0 .small)
 
--- src/lib.rt:86:9
+shl-held : tie.Need-shl-held Inv-loop μ-loop
+shl-held c = omega (arith, c .before .before .before .before .before .before .before .before .before .before .before .before .before .before .before .pre .0 .narrow (c .before .before .before .before .before .before .before .before .before .before .before .loop .k), c .before .before .before .before .before .before .before .before .wide .ensures, c .before .before .before .before .before .before .before .before .before .before .before .loop .inv .few)
+
+rem-held : tie.Need-rem-held Inv-loop μ-loop
+rem-held c =
+    let r = c .before .before .before .before .before .before .before .before .before .before .before .loop .count + c .before .before .before .before .before .before .before .before .wide .result - 64 in
+    let h : r < 64 = omega (arith, c .before .before .before .before .before .before .before .before .before .before .before .before .before .before .before .pre .0 .narrow (c .before .before .before .before .before .before .before .before .before .before .before .loop .k), c .before .before .before .before .before .before .before .before .wide .ensures, c .before .before .before .before .before .before .before .before .before .before .before .loop .inv .few) in
+    rw (one-shl r 64 h) (pow-pos r)
+
 add-k : tie.Need-add-k Inv-loop μ-loop
 add-k c = omega arith
 
--- src/lib.rt:82:5
 loop-less : tie.Need-loop-less Inv-loop μ-loop
 loop-less c = omega arith
 
--- src/lib.rt:82:5
 loop-again : tie.Need-loop-again Inv-loop μ-loop
 loop-again c =
-    let s = c .before .before .before .before .before .before .before .before .before .before .before .before in
-    let a = s .args in
-    let l = c .before .before .before .before .before .before .before .before .loop in
-    let w = c .before .before .before .before .before .wide in
-    let ws = a .widths .now in
-    let vs = a .values .now in
-    let h : l .k < length ws = omega arith in
-    let e : c .before .before .put .last .0 ≡ written (a .buf .now) (a .at) (spread (take (l .k + 1) ws) (take (l .k + 1) vs)) =
-    c .before .before .put .ensures
-    ∙ ap₂ (λ (x : List ℕ) (y : ℕ). written x y (bits (w .result) (getD vs (l .k) 0))) (l .inv .1 .1 .1) (l .inv .1 .0)
-    ∙ ap (λ (x : ℕ). written (written (a .buf .now) (a .at) (spread (take (l .k) ws) (take (l .k) vs))) (a .at + total (take (l .k) ws))
-    (bits x (getD vs (l .k) 0)))
-    (w .ensures)
-    ∙ put-more (a .buf .now) (a .at) ws vs (l .k) h (s .pre .1) (s .pre .0 .inside) in
-    let n = ap length e ∙ length-written (a .buf .now) (a .at) (spread (take (l .k + 1) ws) (take (l .k + 1) vs)) in
-    (omega arith, (omega (arith, total-more ws (l .k) h), (n, e)))
+    let s = c .before .before .before .before .before .before .before .before .before .before in
+    let l = c .before .before .before .before .before .before .loop in
+    let w = c .before .before .before .wide in
+    let v = c .before .long in
+    ⊎-elim
+    (λ j. holding-as (holding-more (l .inv) (s .pre .1) (s .pre .0) (c .before .before .before .before .before .loop-test .taken) (w .ensures) (v .ensures) (j .0 .taken))
+    (j .2) (j .3) (j .4 ∙ j .1 .ensures) (j .5))
+    (λ j.
+    let r : ℕ = l .count + w .result - 64 in
+    let n : w .result ≤ 32 = omega (arith, s .pre .0 .narrow (l .k), w .ensures) in
+    let h : r < 64 = omega (arith, l .inv .few) in
+    let sum : l .count + w .result ≡ 64 + r = omega (arith, j .0 .left) in
+    let f : r ≤ w .result = omega (arith, l .inv .few) in
+    holding-as
+    (holding-full (l .inv) (s .pre .1) (s .pre .0) (c .before .before .before .before .before .loop-test .taken) (w .ensures) (v .ensures) r sum f)
+    (j .6 ∙ j .3 .ensures ∙ ap (λ (x : ℕ). written (l .buf) (l .place) (bits 64 x)) (j .2 .ensures))
+    (j .7) (j .8 ∙ ap (λ (x : ℕ). v .result % x) (one-shl r 64 h)) (j .9))
+    (c .if1 .came)
 
--- src/lib.rt:76:1
+put-long-requires : tie.Need-put-long-requires Inv-loop μ-loop
+put-long-requires c κs =
+    let s = c .before .before .before .before .before .before in
+    let l = c .before .before .loop in
+    omega (arith, l .inv .few, l .inv .same, holding-end (l .inv) (c .before .loop-test .left), s .pre .0 .small, s .pre .0 .inside)
+
 same-length : tie.Need-same-length Inv-loop μ-loop
-same-length c = c .before .loop .inv .1 .1 .0
+same-length c =
+    let l = c .before .before .before .before .before .loop in
+    ap length (c .before .before .put-long .ensures) ∙ length-written (l .buf) (l .place) (bits (l .count) (l .held)) ∙ l .inv .same
 
--- src/lib.rt:76:1
 returns : tie.Need-returns Inv-loop μ-loop
-returns c =
-    let a = c .before .before .before .before .before .args in
-    let l = c .before .loop in
-    l .inv .1 .1 .1
-    ∙ ap₂ (λ (x y : List ℕ). written (a .buf .now) (a .at) (spread x y))
-    (take-all (l .k) (a .widths .now) (omega arith)) (take-all (l .k) (a .values .now) (omega arith))
+returns c = c .before .before .put-long .ensures ∙ holding-all (c .before .before .before .before .before .loop .inv) (c .before .before .before .before .before .before .before .before .before .pre .1) (c .before .before .before .before .loop-test .left)
 
 pub put-fields-spec : {M : Type 1} → statement M
 put-fields-spec =
@@ -109,12 +142,24 @@ put-fields-spec =
     loop-holds
     shared-slice-read-wide
     wide-requires
-    mul-put
-    shared-slice-read-put
-    put-requires
+    mul-long
+    shared-slice-read-long
+    long-requires
+    add-if1
+    joined-requires
+    add-count
+    add-rest
+    sub-rest
+    shr-joined
+    sub-joined
+    joined-requires-2
+    put-word-requires
     add-place
+    shl-held
+    rem-held
     add-k
     loop-less
     loop-again
+    put-long-requires
     same-length
     returns)

@@ -1,18 +1,15 @@
--- `places::heights::level_holds` meets its contract: every u32 is at most the last time.
+-- `places::heights::level_holds` meets its contract: a level without a search is all zero, any other has an originator.
 -- Assumes nothing.
-use Prim.Native.Nat.{_≤_}
 use native.Mathlib.Omega.{arith}
-use borrow.Author.Tests.{le-leb}
-use Rattle.height.specs.Clock.{lastTime}
-use Rattle.protocol.specs.Holds.{levelHolds}
+use Rattle.places.proofs.HoldsLaws.{level-none, level-some}
 use Rattle.places.proofs.heights.level_holds.Statement.{statement}
 use Rattle.places.proofs.heights.level_holds.Tie as tie
 
 returns : tie.Need-returns
-unfolding levelHolds
-returns c =
-    let h : c .args .l .tau .0 ≤ lastTime = omega arith in
-    rw (le-leb (c .args .l .tau .0) lastTime h)
+returns c = level-none (c .before .args .n) (c .before .args .l) (omega arith)
+
+returns-2 : tie.Need-returns-2
+returns-2 c = level-some (c .before .args .n) (c .before .args .l) (omega arith) (omega arith)
 
 pub level-holds-spec : {M : Type 1} → statement M
-level-holds-spec = tie.close (tie.spec returns)
+level-holds-spec = tie.close (tie.spec returns returns-2)
