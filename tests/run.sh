@@ -38,6 +38,7 @@ bench_prints() {
     bin/bench examples/plot.txt | diff examples/plot.out -
 }
 
+step "docs/TRACEABILITY.md names what there is" bash tests/traceability.sh
 step "bin/bench prints examples/plot.out" bench_prints
 step "the archive for C and Rust (rt staticlib abi)" rt staticlib abi
 if gcc --version >"$log/step" 2>&1; then

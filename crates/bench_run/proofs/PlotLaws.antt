@@ -108,7 +108,8 @@ module _ (input : List ℕ) where
 
 -- ---- the room
 
-pub run-no-room : (input out : List ℕ) {size : ℕ} → size ≡ length (listing input) → length out < size → ran (record { number = 14; size = 0 }) out ≡ runOn input out
+pub run-no-room : (input out : List ℕ) {size : ℕ} → size ≡ length (listing input) → length out < size
+    → ran (record { number = 14; size = 0 }) out ≡ runOn input out
 unfolding runOn listed
 run-no-room input out e h = rw (lt-leb (length (listing input)) (length out) (rw e at h))
 

@@ -23,7 +23,8 @@ both b p = record { bytes = b; place = p }
 pub then : {out mid after : List ℕ} {at between behind : ℕ} {a b : List ℕ} → Poured out at a mid between → Poured mid between b after behind
     → Poured out at (a ++ b) after behind
 then {out} {mid} {after} {at} {between} {behind} {a} {b} x y = record {
-  bytes = y .bytes ∙ (ap (λ (q : ℕ). poured mid q b) (x .place) ∙ (ap (λ (o : List ℕ). poured o (at + length a) b) (x .bytes) ∙ sym (poured-append out at a b)));
+  bytes =
+      y .bytes ∙ (ap (λ (q : ℕ). poured mid q b) (x .place) ∙ (ap (λ (o : List ℕ). poured o (at + length a) b) (x .bytes) ∙ sym (poured-append out at a b)));
   place = y .place ∙ (ap (λ (q : ℕ). q + length b) (x .place) ∙ (add-assoc at (length a) (length b) ∙ ap (λ (q : ℕ). at + q) (sym (length-append a b))));
 }
 

@@ -31,7 +31,8 @@ pub fn put_bad_plot(out: &mut [u8]) -> usize
 // A number in decimal, and the byte that ends it.
 fn put_number(out: &mut [u8], at: usize, x: u32, end: u8) -> usize
     requires { ⌜ at < 2 ^ 31 ⌝ }
-    ensures { λ r. ⌜ (now (out .exit) ≡ poured (now (out .entry)) at (decimal x ++ (end ∷ []))) × (r ≡ at + length (decimal x ++ (end ∷ []))) × (r ≤ at + 11) ⌝ }
+    ensures { λ r. ⌜ (now (out .exit) ≡ poured (now (out .entry)) at (decimal x ++ (end ∷ [])))
+        × (r ≡ at + length (decimal x ++ (end ∷ []))) × (r ≤ at + 11) ⌝ }
 {
     let behind = text::put_decimal(out, at, x);
     text::put_byte(out, behind, end)

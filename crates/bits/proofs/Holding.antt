@@ -103,7 +103,8 @@ module _ {ws vs xs buf : List ℕ} {at place held c k w v : ℕ} (inv : Holding 
 -- the same with the numbers that the loop has
 pub holding-as : {ws vs xs : List ℕ} {at k : ℕ} {buf buf' : List ℕ} {place place' held held' c c' : ℕ} → Holding ws vs xs at buf place held c k
     → buf' ≡ buf → place' ≡ place → held' ≡ held → c' ≡ c → Holding ws vs xs at buf' place' held' c' k
-holding-as {ws = ws} {vs = vs} {xs = xs} {at = at} {k = k} {buf = buf} {buf' = buf'} {place = place} {place' = place'} {held = held} {held' = held'} {c = c} {c' = c'} inv eb ep eh ec =
+holding-as {ws = ws} {vs = vs} {xs = xs} {at = at} {k = k} {buf = buf} {place = place} {place' = place'} {held = held} {held' = held'} {c' = c'}
+    inv eb ep eh ec =
     subst (λ (x : List ℕ). Holding ws vs xs at x place' held' c' k) (sym eb)
     (subst (λ (x : ℕ). Holding ws vs xs at buf x held' c' k) (sym ep)
     (subst (λ (x : ℕ). Holding ws vs xs at buf place x c' k) (sym eh)

@@ -148,7 +148,8 @@ word-written xs at v b h small =
     ∙ sym (joins o z x (v / 2 ^ o)) in
     let start : written xs (8 * i) (bits 64 (x * 2 ^ z + v / 2 ^ o)) ≡ written xs at y =
     ap (written xs (8 * i)) first
-    ∙ sym (written-written xs (8 * i) (bits o x) y (8 * i + o) (below-bits o x) (ap (λ (k : ℕ). 8 * i + k) (sym (length-bits o x))) (omega (arith, length-bits z (v / 2 ^ o))))
+    ∙ sym (written-written xs (8 * i) (bits o x) y (8 * i + o) (below-bits o x) (ap (λ (k : ℕ). 8 * i + k) (sym (length-bits o x)))
+    (omega (arith, length-bits z (v / 2 ^ o))))
     ∙ ap₂ (λ (l : List ℕ) (k : ℕ). written l k y) own p in
     ap₂ (λ (l m : List ℕ). written l (at + z) m) start (bits-low o 8 v (omega arith))
     ∙ written-written xs at y (bits o v) (at + z) (below-bits z (v / 2 ^ o)) (ap (λ (k : ℕ). at + k) (sym (length-bits z (v / 2 ^ o))))

@@ -23,7 +23,7 @@ use Rattle.protocol.specs.Rules.{downRule, receiptRule}
 use Rattle.protocol.specs.Step.{Event, up, down, receive, Local, local}
 use Rattle.protocol.specs.declared.Rule.{Rule}
 use Rattle.protocol.specs.declared.Rule.the-variants.{ChannelUp, Ignored}
-use Rattle.protocol.proofs.RuleLaws.{Verdict, isA, isR, isQ, isF, isE, isS, isP, verdict, downCases}
+use Rattle.protocol.proofs.RuleCases.{Verdict, isA, isR, isQ, isF, isE, isS, isP, verdict, downCases}
 use Rattle.tables.specs.Cell.{count, messageAt}
 use Rattle.tables.specs.Fit.{TablesFit, RowFits}
 use Rattle.tables.specs.Load.{load, neighborsAt, formingAt}

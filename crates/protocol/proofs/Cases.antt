@@ -16,5 +16,8 @@ use Rattle.protocol.specs.Step.{carried, localUp, localDown, localIgnore
 use Rattle.protocol.specs.Times.{timesWithin, messageTimely, pairTimely, nodeTimely, timely}
 
 pub cases-hold : (outcomes cases ≡ expectations cases) × (outcomes readings ≡ expectations readings)
-unfolding before same levelKey pairKey heightKey setOf every all update levelHolds deltaHolds pairHolds heightHolds messageHolds notInBoth setsHold ownHolds viewHolds channelHolds placeHolds nodeHolds sound timesWithin messageTimely pairTimely nodeTimely timely above sink absent downRule larger largest deltas ofLevel oneLevelRule equalPairsRule receiptRule carried localUp localDown localIgnored localTaken post commit step misnamed late hasRoom crowded returned accepts answer next nextAll answers pairQuiet nodeQuiet quiet
+unfolding before same levelKey pairKey heightKey setOf every all update levelHolds deltaHolds pairHolds heightHolds messageHolds notInBoth
+    setsHold ownHolds viewHolds channelHolds placeHolds nodeHolds sound timesWithin messageTimely pairTimely nodeTimely timely above
+    sink absent downRule larger largest deltas ofLevel oneLevelRule equalPairsRule receiptRule carried localUp localDown localIgnored
+    localTaken post commit step misnamed late hasRoom crowded returned accepts answer next nextAll answers pairQuiet nodeQuiet quiet
 cases-hold = (refl, refl)

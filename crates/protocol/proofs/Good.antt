@@ -12,7 +12,7 @@ use Rattle.protocol.specs.Step.{Event, step}
 use Rattle.protocol.proofs.Accepted.{Accepted, accepted}
 use Rattle.protocol.proofs.HistoryLaws.{event-told}
 use Rattle.protocol.proofs.Invariant.{Inv}
-use Rattle.protocol.proofs.Kept.{step-keeps, fresh-inv}
+use Rattle.protocol.proofs.StepKeeps.{step-keeps, fresh-inv}
 use Rattle.protocol.proofs.Soundness.{Fits, fresh-fits}
 use Rattle.protocol.proofs.StepFits.{step-fits}
 use Rattle.protocol.proofs.TestsLaws.{Choice, yes!, no!, choice}

@@ -3,12 +3,15 @@
 pub mod Said
 pub mod TestsLaws
 pub mod RuleLaws
+pub mod RuleCases
 pub mod LinkLaws
 pub mod Invariant
 pub mod Accepted
 pub mod Ranges
+pub mod RangesAfter
 pub mod Channels
 pub mod Kept
+pub mod StepKeeps
 pub mod Soundness
 pub mod StepFits
 pub mod Restrict

@@ -109,3 +109,7 @@ module _ (write : ℕ → Network → List ℕ) (read : ℕ → List ℕ → Rea
       let w = perform write read n startOfRun cs in
       let r : act write read n w (restore b) .now .network ≡ s .network = rw (read-saved w b s (run-sane cs fair) e) in
       record { answered = λ es. ap (λ (p : Network). answers n p es) r; left = λ es. ap (λ (p : Network). nextAll n p es) r }
+
+-- of two saves that wrote the same bytes, the newer one counts
+pub newest-save : (b : List ℕ) (s : Saved) (ss : List Saved) → sameBytes b (s .bytes) ≡ true → lastSave b (s ∷ ss) ≡ savedAt (s .state)
+newest-save b s ss e = rw e refl

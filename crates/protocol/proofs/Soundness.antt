@@ -19,7 +19,8 @@ use Rattle.protocol.specs.declared.Rule.{Rule}
 use Rattle.protocol.specs.declared.Rule.the-variants.{AdoptLpIfPriority, ElectSelf, ReflectRefLevel, Ignored}
 use Rattle.protocol.specs.declared.Rule.the-variants.{PropagateLargestRefLevel, NoChange, Reply, StartNewRefLevel, ChannelUp}
 use Rattle.protocol.proofs.Channels.{length-post, Cleared, isWhole, isTail, isGone, cleared-short, cleared-nil}
-use Rattle.protocol.proofs.Ranges.{HeightFits, zero-level, zero-delta}
+use Rattle.protocol.proofs.Ranges.{HeightFits}
+use Rattle.protocol.proofs.RangesAfter.{zero-level, zero-delta}
 use Rattle.protocol.proofs.TestsLaws.{Choice, yes!, no!, choice, SameOrNot, equal?}
 use Rattle.protocol.proofs.TestsLaws.{update-at, update-off, row-at, row-off}
 

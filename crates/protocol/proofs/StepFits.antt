@@ -25,8 +25,10 @@ use Rattle.protocol.proofs.Accepted.{Accepted, home-node, peer-node}
 use Rattle.protocol.proofs.Channels.{cleared-is, cleared-nil}
 use Rattle.protocol.proofs.Invariant.{SameBut, same-all, same-forming, same-updated}
 use Rattle.protocol.proofs.Kept.{down-silent}
-use Rattle.protocol.proofs.Ranges.{HeightFits, fits-receipt, fits-down}
-use Rattle.protocol.proofs.RuleLaws.{byCases, verdict}
+use Rattle.protocol.proofs.Ranges.{HeightFits}
+use Rattle.protocol.proofs.RangesAfter.{fits-receipt, fits-down}
+use Rattle.protocol.proofs.RuleLaws.{byCases}
+use Rattle.protocol.proofs.RuleCases.{verdict}
 use Rattle.protocol.proofs.Soundness.{Ranged, Fits, fit-head, commit-fits, sends-in, sends-down, either}
 use Rattle.protocol.proofs.TestsLaws.{SameOrNot, equal?, every-at, update-at, update-off, cell-at, update-all}
 

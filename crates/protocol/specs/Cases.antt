@@ -171,7 +171,7 @@ cases =
     }
     ∷ []
 
--- ---- two more, for wrong readings that a to i do not tell apart
+-- ---- more, for wrong readings that a to i do not tell apart
 
 -- rule P where a view of another level has the smaller depth: the smallest depth among views with the largest level counts
 abbrev pub deeperElsewhere : Network
@@ -187,6 +187,21 @@ lastLinkLost =
     withNode 1 3 (2 ∷ []) (3 ∷ []) (h 0 0 0 (pos 1) (pos 0) 2 1 ∷ h 0 0 0 (pos 0) (pos 0) 2 2 ∷ [])
     (withNode 2 3 (1 ∷ []) [] (h 0 0 0 (pos 1) (pos 0) 2 1 ∷ h 0 0 0 (pos 0) (pos 0) 2 2 ∷ []) fresh)
 
+-- rule S on a receipt: the one level has bit 1 and another's number
+abbrev pub reflectedToAnother : Network
+reflectedToAnother =
+    withNode 1 6 (2 ∷ []) [] (h 5 3 0 (pos 2) (pos 0) 3 1 ∷ h 5 3 0 (pos 3) (pos 0) 3 2 ∷ [])
+    (withNode 2 7 (1 ∷ []) [] (h 5 3 0 (pos 2) (pos 0) 3 1 ∷ h 5 3 1 (pos 0) (pos 0) 3 2 ∷ [])
+    (withMessage 2 1 (h 5 3 1 (pos 0) (pos 0) 3 2) 7 fresh))
+
+-- rule R at a node with two neighbors: only the sender hears it
+abbrev pub oldLeaderHeard : Network
+oldLeaderHeard =
+    withNode 1 5 (2 ∷ 3 ∷ []) [] (h 0 0 0 (pos 0) (negsuc 3) 1 1 ∷ h 0 0 0 (pos 1) (negsuc 3) 1 2 ∷ h 0 0 0 (pos 1) (negsuc 3) 1 3 ∷ [])
+    (withNode 2 3 [] (1 ∷ []) (h 0 0 0 (pos 0) (pos 0) 2 2 ∷ [])
+    (withNode 3 5 (1 ∷ []) [] (h 0 0 0 (pos 0) (negsuc 3) 1 1 ∷ h 0 0 0 (pos 1) (negsuc 3) 1 3 ∷ [])
+    (withMessage 2 1 (h 0 0 0 (pos 0) (pos 0) 2 2) 3 fresh)))
+
 abbrev pub readings : List Case
 readings =
     record {
@@ -200,6 +215,25 @@ readings =
       start = lastLinkLost;
       events = down 1 2 ∷ [];
       expected = expect (69 ∷ []) (4 ∷ []) (held 1 4 (h 0 0 0 (pos 0) (negsuc 3) 1 1) ∷ []) false;
+    }
+    ∷ record {
+      nodes = 3;
+      start = reflectedToAnother;
+      events = receive 2 1 ∷ [];
+      expected = expect (83 ∷ []) (2 ∷ []) (held 1 8 (h 8 1 0 (pos 0) (pos 0) 3 1) ∷ []) false;
+    }
+    ∷ record {
+      nodes = 3;
+      start = oldLeaderHeard;
+      events = receive 2 1 ∷ [];
+      expected = expect (82 ∷ []) (2 ∷ []) (held 1 6 (h 0 0 0 (pos 0) (negsuc 3) 1 1) ∷ []) false;
+    }
+    -- the bench's example, with a later stamp: an ignored message (I 73) moves the clock by one and leaves nothing
+    ∷ record {
+      nodes = 3;
+      start = fresh;
+      events = up 1 3 ∷ up 1 2 ∷ receive 1 2 ∷ [];
+      expected = expect (85 ∷ 85 ∷ 73 ∷ []) (4 ∷ 2 ∷ 0 ∷ []) (held 1 2 (h 0 0 0 (pos 0) (pos 0) 1 1) ∷ held 2 1 (h 0 0 0 (pos 0) (pos 0) 2 2) ∷ []) false;
     }
     ∷ []
 

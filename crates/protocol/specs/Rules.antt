@@ -11,7 +11,8 @@ use Rattle.height.specs.Height.{levelKey, pairKey, zeroLevel}
 use Rattle.height.specs.declared.Height.{Height}
 use Rattle.height.specs.declared.ReferenceLevel.{ReferenceLevel}
 use Rattle.protocol.specs.declared.Rule.{Rule}
-use Rattle.protocol.specs.declared.Rule.the-variants.{ElectSelf, StartNewRefLevel, NoChange, ReflectRefLevel, PropagateLargestRefLevel, AdoptLpIfPriority, Reply}
+use Rattle.protocol.specs.declared.Rule.the-variants.{ElectSelf, StartNewRefLevel, NoChange}
+use Rattle.protocol.specs.declared.Rule.the-variants.{ReflectRefLevel, PropagateLargestRefLevel, AdoptLpIfPriority, Reply}
 use Rattle.protocol.specs.Functions.{every}
 use Rattle.protocol.specs.Sink.{sink}
 

@@ -103,7 +103,8 @@ module _ (n : ℕ) (low : 1 ≤ n) (few : n ≤ 16) (w : RunState) (sane : Sane 
   unfolding reply replyTo tablesAfter
   one-saved b s e =
       let f = found image readImage n (read-back n low few) b (w .saves) (sane .kept) s e in
-      let r = restore-image n low few (s .network) (sound-holds n (s .network) (f .good .fits)) (restrict-is n (s .network) (f .good .fits)) t (is-sized n t size) in
+      let r = restore-image n low few (s .network) (sound-holds n (s .network) (f .good .fits))
+      (restrict-is n (s .network) (f .good .fits)) t (is-sized n t size) in
       record {
         reply-is = ap toRestore (restore-said n t (tablesOf n fresh) size (tables-sized n fresh low few) b);
         after-is =

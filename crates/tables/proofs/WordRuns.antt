@@ -44,7 +44,9 @@ rows-are w (suc k) xs f h e =
     let first : take w xs ≡ f 1 = rw z at (e 0 (omega arith)) in
     let rest : drop w xs ≡ rows k (λ i. f (suc i)) =
     rows-are w k (drop w xs) (λ i. f (suc i)) (length-drop w xs ∙ omega arith)
-    (λ i l. let q : w + i * w ≡ suc i * w = omega arith in ap (take w) (drop-drop (i * w) w xs) ∙ ap (λ (j : ℕ). take w (drop j xs)) q ∙ e (suc i) (omega arith)) in
+    (λ i l.
+    let q : w + i * w ≡ suc i * w = omega arith in
+    ap (take w) (drop-drop (i * w) w xs) ∙ ap (λ (j : ℕ). take w (drop j xs)) q ∙ e (suc i) (omega arith)) in
     sym (take-append-drop w xs) ∙ ap (λ (ys : List ℕ). ys ++ drop w xs) first ∙ ap (λ (ys : List ℕ). f 1 ++ ys) rest
 
 -- seven words are those of the height that they give

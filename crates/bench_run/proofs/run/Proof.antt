@@ -27,7 +27,9 @@ same-length c = search needs
 
 -- src/lib.rt:17:1
 returns-2 : tie.Need-returns-2
-returns-2 c = run-room _ _ _ (c .before .before .before .before .before .before .list .ensures .1) (c .before .before .before .before .if1 .left) (c .before .before .list2 .ensures .0)
+returns-2 c =
+    run-room _ _ _ (c .before .before .before .before .before .before .list .ensures .1) (c .before .before .before .before .if1 .left)
+    (c .before .before .list2 .ensures .0)
 
 pub run-spec : {M : Type 1} → statement M
 run-spec =

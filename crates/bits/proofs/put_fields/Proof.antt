@@ -39,24 +39,39 @@ long-requires : tie.Need-long-requires Inv-loop μ-loop
 long-requires c κs = tt
 
 add-if1 : tie.Need-add-if1 Inv-loop μ-loop
-add-if1 c = omega (arith, c .before .before .before .before .before .before .before .before .before .pre .0 .narrow (c .before .before .before .before .before .loop .k), c .before .before .wide .ensures, c .before .before .before .before .before .loop .inv .few)
+add-if1 c =
+    let s = c .before .before .before .before .before .before .before .before .before in
+    let l = c .before .before .before .before .before .loop in
+    let w = c .before .before .wide in
+    omega (arith, s .pre .0 .narrow (l .k), w .ensures, l .inv .few)
 
 joined-requires : tie.Need-joined-requires Inv-loop μ-loop
 joined-requires c κs =
-    let n = holding-narrow (c .before .before .before .before .before .before .loop .inv) (c .before .before .before .before .before .before .before .before .before .before .pre .1) (c .before .before .before .before .before .before .before .before .before .before .pre .0) (c .before .before .before .before .before .loop-test .taken) (c .before .before .before .wide .ensures) (c .before .long .ensures) in
+    let s = c .before .before .before .before .before .before .before .before .before .before in
+    let l = c .before .before .before .before .before .before .loop in
+    let more = c .before .before .before .before .before .loop-test .taken in
+    let n = holding-narrow (l .inv) (s .pre .1) (s .pre .0) more (c .before .before .before .wide .ensures) (c .before .long .ensures) in
     (n, lt-of-lt-of-le (c .before .before .before .before .before .before .loop .inv .small) (pow-mono (omega (arith, c .if1 .taken))))
 
 add-count : tie.Need-add-count Inv-loop μ-loop
 add-count c = omega (arith, c .before .if1 .taken)
 
 add-rest : tie.Need-add-rest Inv-loop μ-loop
-add-rest c = omega (arith, c .before .before .before .before .before .before .before .before .before .before .pre .0 .narrow (c .before .before .before .before .before .before .loop .k), c .before .before .before .wide .ensures, c .before .before .before .before .before .before .loop .inv .few)
+add-rest c =
+    let s = c .before .before .before .before .before .before .before .before .before .before in
+    let l = c .before .before .before .before .before .before .loop in
+    let w = c .before .before .before .wide in
+    omega (arith, s .pre .0 .narrow (l .k), w .ensures, l .inv .few)
 
 sub-rest : tie.Need-sub-rest Inv-loop μ-loop
 sub-rest c = omega (arith, c .if1 .left)
 
 shr-joined : tie.Need-shr-joined Inv-loop μ-loop
-shr-joined c = omega (arith, c .before .before .before .before .before .before .before .before .before .before .before .pre .0 .narrow (c .before .before .before .before .before .before .before .loop .k), c .before .before .before .before .wide .ensures, c .before .before .before .before .before .before .before .loop .inv .few)
+shr-joined c =
+    let s = c .before .before .before .before .before .before .before .before .before .before .before in
+    let l = c .before .before .before .before .before .before .before .loop in
+    let w = c .before .before .before .before .wide in
+    omega (arith, s .pre .0 .narrow (l .k), w .ensures, l .inv .few)
 
 sub-joined : tie.Need-sub-joined Inv-loop μ-loop
 sub-joined c = omega (arith, c .before .before .before .before .before .before .before .loop .inv .few)
@@ -65,7 +80,9 @@ joined-requires-2 : tie.Need-joined-requires-2 Inv-loop μ-loop
 joined-requires-2 c κs =
     let w = c .before .before .before .before .wide .result in
     let k = c .before .before .before .before .before .before .before .loop .count in
-    let n : w ≤ 32 = omega (arith, c .before .before .before .before .before .before .before .before .before .before .before .pre .0 .narrow (c .before .before .before .before .before .before .before .loop .k), c .before .before .before .before .wide .ensures) in
+    let s = c .before .before .before .before .before .before .before .before .before .before .before in
+    let l = c .before .before .before .before .before .before .before .loop in
+    let n : w ≤ 32 = omega (arith, s .pre .0 .narrow (l .k), c .before .before .before .before .wide .ensures) in
     let e : 64 - (w - (k + w - 64)) ≡ k = omega (arith, c .before .before .before .before .before .before .before .loop .inv .few, c .before .if1 .left) in
     (omega arith, rw e (c .before .before .before .before .before .before .before .loop .inv .small))
 
@@ -73,23 +90,34 @@ put-word-requires : tie.Need-put-word-requires Inv-loop μ-loop
 put-word-requires c κs =
     let s = c .before .before .before .before .before .before .before .before .before .before .before .before in
     let l = c .before .before .before .before .before .before .before .before .loop in
-    let r = holding-room (l .inv) (s .pre .1) (s .pre .0) (c .before .before .before .before .before .before .before .loop-test .taken) (c .before .before .before .before .before .wide .ensures) (c .before .before .before .long .ensures) in
+    let more = c .before .before .before .before .before .before .before .loop-test .taken in
+    let w = c .before .before .before .before .before .wide .ensures in
+    let r = holding-room (l .inv) (s .pre .1) (s .pre .0) more w (c .before .before .before .long .ensures) in
     omega (arith, r, c .before .before .if1 .left, l .inv .same, s .pre .0 .small, s .pre .0 .inside)
 
 add-place : tie.Need-add-place Inv-loop μ-loop
 add-place c =
     let s = c .before .before .before .before .before .before .before .before .before .before .before .before .before .before .before in
     let l = c .before .before .before .before .before .before .before .before .before .before .before .loop in
-    let r = holding-room (l .inv) (s .pre .1) (s .pre .0) (c .before .before .before .before .before .before .before .before .before .before .loop-test .taken) (c .before .before .before .before .before .before .before .before .wide .ensures) (c .before .before .before .before .before .before .long .ensures) in
+    let more = c .before .before .before .before .before .before .before .before .before .before .loop-test .taken in
+    let w = c .before .before .before .before .before .before .before .before .wide .ensures in
+    let r = holding-room (l .inv) (s .pre .1) (s .pre .0) more w (c .before .before .before .before .before .before .long .ensures) in
     omega (arith, r, c .before .before .before .before .before .if1 .left, s .pre .0 .small)
 
 shl-held : tie.Need-shl-held Inv-loop μ-loop
-shl-held c = omega (arith, c .before .before .before .before .before .before .before .before .before .before .before .before .before .before .before .pre .0 .narrow (c .before .before .before .before .before .before .before .before .before .before .before .loop .k), c .before .before .before .before .before .before .before .before .wide .ensures, c .before .before .before .before .before .before .before .before .before .before .before .loop .inv .few)
+shl-held c =
+    let s = c .before .before .before .before .before .before .before .before .before .before .before .before .before .before .before in
+    let l = c .before .before .before .before .before .before .before .before .before .before .before .loop in
+    let w = c .before .before .before .before .before .before .before .before .wide in
+    omega (arith, s .pre .0 .narrow (l .k), w .ensures, l .inv .few)
 
 rem-held : tie.Need-rem-held Inv-loop μ-loop
 rem-held c =
-    let r = c .before .before .before .before .before .before .before .before .before .before .before .loop .count + c .before .before .before .before .before .before .before .before .wide .result - 64 in
-    let h : r < 64 = omega (arith, c .before .before .before .before .before .before .before .before .before .before .before .before .before .before .before .pre .0 .narrow (c .before .before .before .before .before .before .before .before .before .before .before .loop .k), c .before .before .before .before .before .before .before .before .wide .ensures, c .before .before .before .before .before .before .before .before .before .before .before .loop .inv .few) in
+    let s = c .before .before .before .before .before .before .before .before .before .before .before .before .before .before .before in
+    let l = c .before .before .before .before .before .before .before .before .before .before .before .loop in
+    let w = c .before .before .before .before .before .before .before .before .wide in
+    let r = l .count + w .result - 64 in
+    let h : r < 64 = omega (arith, s .pre .0 .narrow (l .k), w .ensures, l .inv .few) in
     rw (one-shl r 64 h) (pow-pos r)
 
 add-k : tie.Need-add-k Inv-loop μ-loop
@@ -104,8 +132,9 @@ loop-again c =
     let l = c .before .before .before .before .before .before .loop in
     let w = c .before .before .before .wide in
     let v = c .before .long in
+    let more = c .before .before .before .before .before .loop-test .taken in
     ⊎-elim
-    (λ j. holding-as (holding-more (l .inv) (s .pre .1) (s .pre .0) (c .before .before .before .before .before .loop-test .taken) (w .ensures) (v .ensures) (j .0 .taken))
+    (λ j. holding-as (holding-more (l .inv) (s .pre .1) (s .pre .0) more (w .ensures) (v .ensures) (j .0 .taken))
     (j .2) (j .3) (j .4 ∙ j .1 .ensures) (j .5))
     (λ j.
     let r : ℕ = l .count + w .result - 64 in
@@ -114,7 +143,7 @@ loop-again c =
     let sum : l .count + w .result ≡ 64 + r = omega (arith, j .0 .left) in
     let f : r ≤ w .result = omega (arith, l .inv .few) in
     holding-as
-    (holding-full (l .inv) (s .pre .1) (s .pre .0) (c .before .before .before .before .before .loop-test .taken) (w .ensures) (v .ensures) r sum f)
+    (holding-full (l .inv) (s .pre .1) (s .pre .0) more (w .ensures) (v .ensures) r sum f)
     (j .6 ∙ j .3 .ensures ∙ ap (λ (x : ℕ). written (l .buf) (l .place) (bits 64 x)) (j .2 .ensures))
     (j .7) (j .8 ∙ ap (λ (x : ℕ). v .result % x) (one-shl r 64 h)) (j .9))
     (c .if1 .came)
@@ -131,7 +160,10 @@ same-length c =
     ap length (c .before .before .put-long .ensures) ∙ length-written (l .buf) (l .place) (bits (l .count) (l .held)) ∙ l .inv .same
 
 returns : tie.Need-returns Inv-loop μ-loop
-returns c = c .before .before .put-long .ensures ∙ holding-all (c .before .before .before .before .before .loop .inv) (c .before .before .before .before .before .before .before .before .before .pre .1) (c .before .before .before .before .loop-test .left)
+returns c =
+    let s = c .before .before .before .before .before .before .before .before .before in
+    let l = c .before .before .before .before .before .loop in
+    c .before .before .put-long .ensures ∙ holding-all (l .inv) (s .pre .1) (c .before .before .before .before .loop-test .left)
 
 pub put-fields-spec : {M : Type 1} → statement M
 put-fields-spec =

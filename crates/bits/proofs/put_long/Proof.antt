@@ -53,7 +53,8 @@ returns-2 : tie.Need-returns-2
 returns-2 c =
     let a = c .before .before .before .before .before .before .before .before .before .before .args in
     c .before .before .put-low3 .ensures
-    ∙ ap (λ (l : List ℕ). written l (a .at + (a .width - 32)) (bits 32 (a .value % 2 ^ 32))) (c .before .before .before .before .before .before .put-low2 .ensures)
+    ∙ ap (λ (l : List ℕ). written l (a .at + (a .width - 32)) (bits 32 (a .value % 2 ^ 32)))
+    (c .before .before .before .before .before .before .put-low2 .ensures)
     ∙ long-written (a .buf .now) (a .at) (a .width) (a .value) (omega arith) (omega arith)
 
 pub put-long-spec : {M : Type 1} → statement M

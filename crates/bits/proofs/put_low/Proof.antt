@@ -22,7 +22,8 @@ returns c =
     let a = c .before .before .before .before .before .before .before .before .args in
     let e : 8 * (a .at / 8) ≡ a .at = omega arith in
     let w : 32 ≡ a .width = omega arith in
-    c .before .before .store .ensures ∙ ap₂ (λ (p v : ℕ). written (a .buf .now) p (bits 32 v)) e (c .before .before .before .long .ensures) ∙ ap (λ (k : ℕ). written (a .buf .now) (a .at) (bits k (a .value))) w
+    c .before .before .store .ensures ∙ ap₂ (λ (p v : ℕ). written (a .buf .now) p (bits 32 v)) e (c .before .before .before .long .ensures)
+    ∙ ap (λ (k : ℕ). written (a .buf .now) (a .at) (bits k (a .value))) w
 
 put-requires : tie.Need-put-requires
 put-requires c κs = search needs

@@ -128,7 +128,9 @@ same-length-10 c = search needs
 returns-4 : tie.Need-returns-4
 returns-4 c =
     let x = c .before .before .put-event .ensures in
-    line-done (told-malformed _ _ _ _ (c .before .before .before .before .before .before .parse .ensures) (c .before .before .before .before .enum-told .given .1)) (both (x .0) (x .1)) (x .2)
+    line-done
+    (told-malformed _ _ _ _ (c .before .before .before .before .before .before .parse .ensures) (c .before .before .before .before .enum-told .given .1))
+    (both (x .0) (x .1)) (x .2)
 
 pub line-spec : {M : Type 1} → statement M
 line-spec =

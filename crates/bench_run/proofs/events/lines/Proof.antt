@@ -71,7 +71,8 @@ loop-again c =
     let l = b13 .loop in
     let end = b11 .line-end .ensures in
     let x = c .before .before .before .before .before .before .line .ensures in (
-      run-next _ _ _ _ _ _ _ _ (l .start) (l .k) (l .place) (l .inv .0) (b12 .loop-test .taken) _ (end .0) (end .1) _ refl _ _ _ (both (x .0) (x .1)) (x .2) (x .3),
+      run-next _ _ _ _ _ _ _ _ (l .start) (l .k) (l .place) (l .inv .0) (b12 .loop-test .taken) _
+          (end .0) (end .1) _ refl _ _ _ (both (x .0) (x .1)) (x .2) (x .3),
       c .before .before .before .before .before .nodes .given ∙ l .inv .1,
       c .before .before .before .channels .given ∙ l .inv .2,
     )

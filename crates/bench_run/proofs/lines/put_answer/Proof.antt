@@ -29,7 +29,8 @@ same-length c = search needs
 returns : tie.Need-returns
 returns c =
     let e = c .before .before .put-event .ensures in
-    let line = said-line _ _ (c .before .before .before .before .before .number .ensures) (c .before .before .before .before .letter .ensures) (c .before .before .before .sent .ensures) in
+    let line = said-line _ _ (c .before .before .before .before .before .number .ensures)
+    (c .before .before .before .before .letter .ensures) (c .before .before .before .sent .ensures) in
     finish (both (e .0) (e .1)) line 35 (said-le _ _)
 
 pub put-answer-spec : {M : Type 1} → statement M

@@ -34,7 +34,8 @@ returns c =
     let d = c .before .before .before .before .before .before .put-letter .ensures in
     let e = c .before .before .put-number3 .ensures in
     let all = then (both (a .0) (a .1)) (then (both (b .0) (b .1)) (then (both (d .0) (d .1)) (both (e .0) (e .1)))) in
-    finish all (event-pieces (s .args .k) (s .args .code) (s .args .letter) (s .args .sent)) 35 (event-le (s .args .k) (s .args .code) (s .args .letter) (s .args .sent))
+    finish all (event-pieces (s .args .k) (s .args .code) (s .args .letter) (s .args .sent)) 35
+    (event-le (s .args .k) (s .args .code) (s .args .letter) (s .args .sent))
 
 pub put-event-spec : {M : Type 1} → statement M
 put-event-spec =

@@ -14,7 +14,9 @@ put-decimal-requires c κs = search needs
 
 -- src/lines.rt:37:5
 put-byte-requires : tie.Need-put-byte-requires
-put-byte-requires c κs = let s = c .before .before .before .before .before .before in omega (arith, c .before .before .before .put-decimal .ensures .1, length-decimal-le (s .args .x), s .pre)
+put-byte-requires c κs =
+    let s = c .before .before .before .before .before .before in
+    omega (arith, c .before .before .before .put-decimal .ensures .1, length-decimal-le (s .args .x), s .pre)
 
 -- src/lines.rt:32:1
 same-length : tie.Need-same-length

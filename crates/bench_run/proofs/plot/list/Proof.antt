@@ -55,7 +55,8 @@ returns-2 c =
     let input = c .before .before .before .before .before .before .before .before .before .before .before .args .input .now in
     let f = fits input (c .before .before .before .before .before .before .before .before .if1 .left) in
     let zero = sym (c .before .before .before .before .before .head .ensures) ∙ c .before .before .before .before .if2 .taken in
-    is-listing input badPlot _ (listing-bad input (f .0) (f .1) _ (c .before .before .before .before .before .before .before .line-end .ensures .0) zero) (x .0) (x .1)
+    is-listing input badPlot _ (listing-bad input (f .0) (f .1) _ (c .before .before .before .before .before .before .before .line-end .ensures .0) zero)
+    (x .0) (x .1)
 
 -- src/plot.rt:68:17
 add-plot : tie.Need-add-plot
@@ -66,7 +67,8 @@ plot-requires : tie.Need-plot-requires
 plot-requires c κs =
     let input = c .before .before .before .before .before .before .before .before .args .input .now in
     let f = fits input (c .before .before .before .before .before .if1 .left) in
-    (omega (arith, c .before .if2 .left), omega (arith, c .before .before .head .ensures, head-range (take (c .before .before .before .before .line-end .result) input)), f .1)
+    let low = head-range (take (c .before .before .before .before .line-end .result) input) in
+    (omega (arith, c .before .if2 .left), omega (arith, c .before .before .head .ensures, low), f .1)
 
 -- src/plot.rt:57:1
 same-length-3 : tie.Need-same-length-3

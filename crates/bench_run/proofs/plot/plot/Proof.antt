@@ -38,25 +38,35 @@ mul-b-2 c = omega (arith, small-cells (c .before .before .before .before .args .
 
 -- src/plot.rt:53:33
 array-borrow-prefix-nodes : tie.Need-array-borrow-prefix-nodes
-array-borrow-prefix-nodes c = omega (arith, small-rows (c .before .before .before .before .args .n) (c .before .before .before .before .pre .1), c .before .blank-nodes .ensures)
+array-borrow-prefix-nodes c =
+    let s = c .before .before .before .before in
+    omega (arith, small-rows (s .args .n) (s .pre .1), c .before .blank-nodes .ensures)
 
 -- src/plot.rt:53:33
 slice-aggregate-with-tables : tie.Need-slice-aggregate-with-tables
-slice-aggregate-with-tables c = sym (length-take-le _ _ (omega (arith, small-rows (c .before .before .before .before .before .args .n) (c .before .before .before .before .before .pre .1), c .before .before .blank-nodes .ensures)))
+slice-aggregate-with-tables c =
+    let s = c .before .before .before .before .before in
+    sym (length-take-le _ _ (omega (arith, small-rows (s .args .n) (s .pre .1), c .before .before .blank-nodes .ensures)))
 
 -- src/plot.rt:53:50
 array-borrow-prefix-channels : tie.Need-array-borrow-prefix-channels
-array-borrow-prefix-channels c = omega (arith, small-cells (c .before .before .before .before .before .args .n) (c .before .before .before .before .before .pre .1), c .before .blank-channels .ensures)
+array-borrow-prefix-channels c =
+    let s = c .before .before .before .before .before in
+    omega (arith, small-cells (s .args .n) (s .pre .1), c .before .blank-channels .ensures)
 
 -- src/plot.rt:53:50
 slice-aggregate-with-tables-2 : tie.Need-slice-aggregate-with-tables-2
-slice-aggregate-with-tables-2 c = sym (length-take-le _ _ (omega (arith, small-cells (c .before .before .before .before .before .before .args .n) (c .before .before .before .before .before .before .pre .1), c .before .before .blank-channels .ensures)))
+slice-aggregate-with-tables-2 c =
+    let s = c .before .before .before .before .before .before in
+    sym (length-take-le _ _ (omega (arith, small-cells (s .args .n) (s .pre .1), c .before .before .blank-channels .ensures)))
 
 -- src/plot.rt:53:5
 with-tables-requires : tie.Need-with-tables-requires
 with-tables-requires c κs =
     let s = c .before .before .before .before .before .before .before in
-    (part-sized (s .args .n) _ _ (s .pre .0) (s .pre .1) (c .before .before .before .before .blank-nodes .ensures) (c .before .before .before .blank-channels .ensures), s .pre .2)
+    let size = part-sized (s .args .n) _ _ (s .pre .0) (s .pre .1) (c .before .before .before .before .blank-nodes .ensures)
+    (c .before .before .before .blank-channels .ensures) in
+    (size, s .pre .2)
 
 -- src/plot.rt:43:1
 same-length : tie.Need-same-length

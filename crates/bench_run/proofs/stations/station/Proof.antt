@@ -32,7 +32,8 @@ returns c =
     let b9 = c .before .before .before .before .before .before .before .before .before in
     let s = b9 in
     let e = c .before .before .put-station .ensures in
-    let line = station-line (s .args .n) (s .args .u) (s .args .nodes .now) (c .before .before .before .before .before .before .node .ensures .0) (c .before .before .before .before .before .height-in .ensures .0) (c .before .before .before .clock .ensures) in
+    let line = station-line (s .args .n) (s .args .u) (s .args .nodes .now) (c .before .before .before .before .before .before .node .ensures .0)
+    (c .before .before .before .before .before .height-in .ensures .0) (c .before .before .before .clock .ensures) in
     finish (both (e .0) (e .1)) line 33 (line-le (s .args .n) (s .args .nodes .now) (s .args .u))
 
 pub station-spec : {M : Type 1} → statement M

@@ -10,6 +10,7 @@ use Rattle.tables.specs.Tables.{tables}
 use Rattle.bench_run.specs.OnTables.{stationLineOn, stationLinesOn}
 use Rattle.bench_run.proofs.PourLaws.{both}
 use Rattle.bench_run.proofs.StationLaws.{Printed, printed-none, printed-next, printed-all}
+use Rattle.protocol.specs.Component.{Node}
 use Rattle.bench_run.proofs.stations.stations.Statement.{statement}
 use Rattle.bench_run.proofs.stations.stations.Tie as tie
 
@@ -28,7 +29,8 @@ station-requires : tie.Need-station-requires Inv-loop μ-loop
 station-requires c κs =
     let l = c .before .before .loop in
     let s = c .before .before .before .before .before in
-    (s .pre .0, record { low = l .inv .low; high = c .before .loop-test .taken }, s .pre .1, omega (arith, l .inv .near, c .before .loop-test .taken, s .pre .0, s .pre .2))
+    let node : Node (s .args .n) (l .u) = record { low = l .inv .low; high = c .before .loop-test .taken } in
+    (s .pre .0, node, s .pre .1, omega (arith, l .inv .near, c .before .loop-test .taken, s .pre .0, s .pre .2))
 
 -- src/stations.rt:32:9
 add-u : tie.Need-add-u Inv-loop μ-loop
