@@ -2,6 +2,8 @@
 //!
 //! `benchmarks [--quick | --check] [file.svg]`: `--quick` takes fewer batches, `--check` only compares, at length.
 
+// The library's calls: the file of the Rust library, which says why.
+#[path = "../../rust/src/ffi.rs"]
 mod abi;
 mod agree;
 mod chart;

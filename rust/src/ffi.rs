@@ -1,6 +1,11 @@
-//! include/election.h, declared again. None of these calls has a precondition but valid memory.
+//! include/election.h, declared again, and each call as a function over slices. Nowhere else is a pointer handed to the library.
+//!
+//! The comparisons in `tests/` and the benchmarks take this file in by `#[path]`, so it is written once. Simpler than to depend on this
+//! crate: it then needs no public module of raw answers, and each of the three keeps its own way to find `libabi.a`.
 
+/// What an event answers.
 #[repr(C)]
+#[derive(Clone, Copy, Debug, PartialEq, Eq)]
 pub struct Answer {
     pub number: u32,
     pub fault_at: u32,
@@ -14,14 +19,18 @@ pub struct Answer {
     pub level_bit: u32,
 }
 
+/// What a check, a fresh plot or a resume answers.
 #[repr(C)]
+#[derive(Clone, Copy, Debug, PartialEq, Eq)]
 pub struct Checked {
     pub number: u32,
     pub fault_at: u32,
     pub fault_with: u32,
 }
 
+/// What a save answers.
 #[repr(C)]
+#[derive(Clone, Copy, Debug, PartialEq, Eq)]
 pub struct Saved {
     pub number: u32,
     pub fault_at: u32,
@@ -29,7 +38,9 @@ pub struct Saved {
     pub size: u64,
 }
 
+/// What a look at one station answers.
 #[repr(C)]
+#[derive(Clone, Copy, Debug, PartialEq, Eq)]
 pub struct Station {
     pub number: u32,
     pub fault_at: u32,
@@ -39,26 +50,29 @@ pub struct Station {
     pub forming: u32,
 }
 
-extern "C" {
-    pub fn election_nodes_len(n: u32) -> usize;
-    pub fn election_channels_len(n: u32) -> usize;
-    pub fn election_row_len(n: u32) -> usize;
-    pub fn election_image_len(n: u32) -> usize;
-    pub fn election_fresh(
+/// The form that up, down and receive share.
+type Event = unsafe extern "C" fn(u32, u32, u32, *mut u32, usize, *mut u32, usize) -> Answer;
+
+unsafe extern "C" {
+    safe fn election_nodes_len(n: u32) -> usize;
+    safe fn election_channels_len(n: u32) -> usize;
+    safe fn election_row_len(n: u32) -> usize;
+    safe fn election_image_len(n: u32) -> usize;
+    fn election_fresh(
         n: u32,
         nodes: *mut u32,
         nodes_len: usize,
         channels: *mut u32,
         channels_len: usize,
     ) -> Checked;
-    pub fn election_check(
+    fn election_check(
         n: u32,
         nodes: *const u32,
         nodes_len: usize,
         channels: *const u32,
         channels_len: usize,
     ) -> Checked;
-    pub fn election_up(
+    fn election_up(
         n: u32,
         u: u32,
         v: u32,
@@ -67,7 +81,7 @@ extern "C" {
         channels: *mut u32,
         channels_len: usize,
     ) -> Answer;
-    pub fn election_down(
+    fn election_down(
         n: u32,
         u: u32,
         v: u32,
@@ -76,7 +90,7 @@ extern "C" {
         channels: *mut u32,
         channels_len: usize,
     ) -> Answer;
-    pub fn election_receive(
+    fn election_receive(
         n: u32,
         from: u32,
         to: u32,
@@ -85,7 +99,7 @@ extern "C" {
         channels: *mut u32,
         channels_len: usize,
     ) -> Answer;
-    pub fn election_save(
+    fn election_save(
         n: u32,
         nodes: *const u32,
         nodes_len: usize,
@@ -94,7 +108,7 @@ extern "C" {
         out: *mut u8,
         out_len: usize,
     ) -> Saved;
-    pub fn election_restore(
+    fn election_restore(
         image: *const u8,
         image_len: usize,
         nodes: *mut u32,
@@ -102,7 +116,7 @@ extern "C" {
         channels: *mut u32,
         channels_len: usize,
     ) -> Checked;
-    pub fn election_read_node(
+    fn election_read_node(
         image: *const u8,
         image_len: usize,
         k: u32,
@@ -110,4 +124,83 @@ extern "C" {
         row: *mut u32,
         row_len: usize,
     ) -> Station;
+}
+
+// Every `unsafe` below: the calls have no precondition but valid memory, and a slice is valid for its length; a `&mut` overlaps nothing.
+
+/// The words of the stations' table.
+pub fn nodes_len(n: u32) -> usize {
+    election_nodes_len(n)
+}
+
+/// The words of the channels' table.
+pub fn channels_len(n: u32) -> usize {
+    election_channels_len(n)
+}
+
+/// The words of a row of heights.
+pub fn row_len(n: u32) -> usize {
+    election_row_len(n)
+}
+
+/// The bytes that hold every image.
+pub fn image_len(n: u32) -> usize {
+    election_image_len(n)
+}
+
+/// The fresh plot.
+pub fn fresh(n: u32, nodes: &mut [u32], channels: &mut [u32]) -> Checked {
+    let (a, b) = (nodes.as_mut_ptr(), channels.as_mut_ptr());
+    unsafe { election_fresh(n, a, nodes.len(), b, channels.len()) }
+}
+
+/// Refusals 1 and 2.
+pub fn check(n: u32, nodes: &[u32], channels: &[u32]) -> Checked {
+    let (a, b) = (nodes.as_ptr(), channels.as_ptr());
+    unsafe { election_check(n, a, nodes.len(), b, channels.len()) }
+}
+
+/// Channel u to v goes up.
+#[inline]
+pub fn up(n: u32, u: u32, v: u32, nodes: &mut [u32], channels: &mut [u32]) -> Answer {
+    event(election_up, n, u, v, nodes, channels)
+}
+
+/// Channel u to v goes down.
+#[inline]
+pub fn down(n: u32, u: u32, v: u32, nodes: &mut [u32], channels: &mut [u32]) -> Answer {
+    event(election_down, n, u, v, nodes, channels)
+}
+
+/// The first message of channel `from` to `to` is received.
+#[inline]
+pub fn receive(n: u32, from: u32, to: u32, nodes: &mut [u32], channels: &mut [u32]) -> Answer {
+    event(election_receive, n, from, to, nodes, channels)
+}
+
+/// One of the three events.
+fn event(f: Event, n: u32, u: u32, v: u32, nodes: &mut [u32], channels: &mut [u32]) -> Answer {
+    let (a, b) = (nodes.as_mut_ptr(), channels.as_mut_ptr());
+    unsafe { f(n, u, v, a, nodes.len(), b, channels.len()) }
+}
+
+/// The image goes to the front of `out`.
+#[inline]
+pub fn save(n: u32, nodes: &[u32], channels: &[u32], out: &mut [u8]) -> Saved {
+    let (a, b, room) = (nodes.as_ptr(), channels.as_ptr(), out.len());
+    unsafe { election_save(n, a, nodes.len(), b, channels.len(), out.as_mut_ptr(), room) }
+}
+
+/// Resumes the plot of an image.
+#[inline]
+pub fn restore(image: &[u8], nodes: &mut [u32], channels: &mut [u32]) -> Checked {
+    let (a, b, len) = (nodes.as_mut_ptr(), channels.as_mut_ptr(), image.len());
+    unsafe { election_restore(image.as_ptr(), len, a, nodes.len(), b, channels.len()) }
+}
+
+/// Looks at one station of an image.
+#[inline]
+pub fn read_node(image: &[u8], k: u32, place: u64, row: &mut [u32]) -> Station {
+    let (len, row_len) = (image.len(), row.len());
+    unsafe { election_read_node(image.as_ptr(), len, k, place, row.as_mut_ptr(), row_len) }
 }

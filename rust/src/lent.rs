@@ -15,29 +15,27 @@
 //! # Ok::<(), Refusal>(())
 //! ```
 
-// Every `unsafe` below: the calls have no precondition but valid memory, and a slice is valid for its length; a `&mut` overlaps nothing.
-
 use crate::answers::{Record, Refusal, Stations, Step};
 use crate::ffi;
 
 /// Words of the stations' table, n (3 + 7 n); 0 for n outside 1 to 16.
 pub fn nodes_len(n: u32) -> usize {
-    unsafe { ffi::election_nodes_len(n) }
+    ffi::nodes_len(n)
 }
 
 /// Words of the channels' table, 65 n n; 0 for n outside 1 to 16.
 pub fn channels_len(n: u32) -> usize {
-    unsafe { ffi::election_channels_len(n) }
+    ffi::channels_len(n)
 }
 
 /// Words of one station's row of heights, 7 n; 0 for n outside 1 to 16.
 pub fn row_len(n: u32) -> usize {
-    unsafe { ffi::election_row_len(n) }
+    ffi::row_len(n)
 }
 
 /// Bytes that hold every image of n stations, 34,044 for 16; 0 for n outside 1 to 16.
 pub fn image_len(n: u32) -> usize {
-    unsafe { ffi::election_image_len(n) }
+    ffi::image_len(n)
 }
 
 fn checked(c: ffi::Checked) -> Result<(), Refusal> {
@@ -46,28 +44,12 @@ fn checked(c: ffi::Checked) -> Result<(), Refusal> {
 
 /// The fresh plot of n stations, whatever the tables held.
 pub fn fresh(n: u32, nodes: &mut [u32], channels: &mut [u32]) -> Result<(), Refusal> {
-    checked(unsafe {
-        ffi::election_fresh(
-            n,
-            nodes.as_mut_ptr(),
-            nodes.len(),
-            channels.as_mut_ptr(),
-            channels.len(),
-        )
-    })
+    checked(ffi::fresh(n, nodes, channels))
 }
 
 /// Refusals 1 and 2 for any tables.
 pub fn check(n: u32, nodes: &[u32], channels: &[u32]) -> Result<(), Refusal> {
-    checked(unsafe {
-        ffi::election_check(
-            n,
-            nodes.as_ptr(),
-            nodes.len(),
-            channels.as_ptr(),
-            channels.len(),
-        )
-    })
+    checked(ffi::check(n, nodes, channels))
 }
 
 /// Channel u to v goes up, at u.
@@ -78,17 +60,7 @@ pub fn up(
     nodes: &mut [u32],
     channels: &mut [u32],
 ) -> Result<Step, Refusal> {
-    Step::of(unsafe {
-        ffi::election_up(
-            n,
-            u,
-            v,
-            nodes.as_mut_ptr(),
-            nodes.len(),
-            channels.as_mut_ptr(),
-            channels.len(),
-        )
-    })
+    Step::of(ffi::up(n, u, v, nodes, channels))
 }
 
 /// Channel u to v goes down, at u; its messages are lost.
@@ -99,17 +71,7 @@ pub fn down(
     nodes: &mut [u32],
     channels: &mut [u32],
 ) -> Result<Step, Refusal> {
-    Step::of(unsafe {
-        ffi::election_down(
-            n,
-            u,
-            v,
-            nodes.as_mut_ptr(),
-            nodes.len(),
-            channels.as_mut_ptr(),
-            channels.len(),
-        )
-    })
+    Step::of(ffi::down(n, u, v, nodes, channels))
 }
 
 /// The first message of channel `from` to `to` is received, at `to`.
@@ -120,62 +82,24 @@ pub fn receive(
     nodes: &mut [u32],
     channels: &mut [u32],
 ) -> Result<Step, Refusal> {
-    Step::of(unsafe {
-        ffi::election_receive(
-            n,
-            from,
-            to,
-            nodes.as_mut_ptr(),
-            nodes.len(),
-            channels.as_mut_ptr(),
-            channels.len(),
-        )
-    })
+    Step::of(ffi::receive(n, from, to, nodes, channels))
 }
 
 /// The image of the plot goes to the front of `out`, and its length in bytes is answered; the bytes behind it stay.
 pub fn save(n: u32, nodes: &[u32], channels: &[u32], out: &mut [u8]) -> Result<usize, Refusal> {
-    let s = unsafe {
-        ffi::election_save(
-            n,
-            nodes.as_ptr(),
-            nodes.len(),
-            channels.as_ptr(),
-            channels.len(),
-            out.as_mut_ptr(),
-            out.len(),
-        )
-    };
+    let s = ffi::save(n, nodes, channels, out);
     Refusal::check(s.number, s.fault_at, s.fault_with)?;
     Ok(s.size as usize)
 }
 
 /// Resumes the plot of an image in tables of the header's n.
 pub fn restore(image: &[u8], nodes: &mut [u32], channels: &mut [u32]) -> Result<(), Refusal> {
-    checked(unsafe {
-        ffi::election_restore(
-            image.as_ptr(),
-            image.len(),
-            nodes.as_mut_ptr(),
-            nodes.len(),
-            channels.as_mut_ptr(),
-            channels.len(),
-        )
-    })
+    checked(ffi::restore(image, nodes, channels))
 }
 
 /// Looks at station k, whose record is said to start at the bit `place`; its n heights go into `row`.
 pub fn read_station(image: &[u8], k: u32, place: u64, row: &mut [u32]) -> Result<Record, Refusal> {
-    let s = unsafe {
-        ffi::election_read_node(
-            image.as_ptr(),
-            image.len(),
-            k,
-            place,
-            row.as_mut_ptr(),
-            row.len(),
-        )
-    };
+    let s = ffi::read_node(image, k, place, row);
     Refusal::check(s.number, s.fault_at, s.fault_with)?;
     Ok(Record {
         clock: s.clock,

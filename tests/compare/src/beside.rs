@@ -50,12 +50,7 @@ impl Beside {
     pub fn step(&mut self, event: Event, tally: &mut Tally) -> Answer {
         self.events += 1;
         let answer = step::step(&mut self.plot, event);
-        let answered = ffi::step(
-            self.n() as u32,
-            event,
-            &mut self.tables.nodes,
-            &mut self.tables.channels,
-        );
+        let answered = call(self.n(), event, &mut self.tables);
         let count = self.events;
         assert_eq!(
             answered,
@@ -109,6 +104,19 @@ impl Beside {
             tally.note(format!("quiet groups of {size}"));
         }
     }
+}
+
+/// One of the three events through the interface; its numbers are from 0 to the largest word.
+fn call(n: i64, event: Event, lent: &mut Tables) -> ffi::Answer {
+    let call = match event {
+        Event::Up { .. } => ffi::up,
+        Event::Down { .. } => ffi::down,
+        Event::Receipt { .. } => ffi::receive,
+    };
+    let word = |number: i64| u32::try_from(number).expect("a number that fits the interface");
+    let (first, second) = event.stations();
+    let (nodes, channels) = (&mut lent.nodes, &mut lent.channels);
+    call(n as u32, word(first), word(second), nodes, channels)
 }
 
 /// Tables of the length for n that hold anything.
@@ -198,7 +206,7 @@ pub fn compare_step(n: i64, event: Event, lent: &Tables, tally: &mut Tally) {
     let answer = tables::step(n, event, &mut expected);
     note_event(event, &answer, tally);
     let mut changed = lent.clone();
-    let answered = ffi::step(n as u32, event, &mut changed.nodes, &mut changed.channels);
+    let answered = call(n, event, &mut changed);
     assert_eq!(answered, expected_answer(&answer), "{event:?}");
     assert_same(&expected, &changed);
 }
@@ -241,7 +249,7 @@ pub fn compare_look(image: &[u8], k: i64, place: u64, mut row: Vec<u32>, tally: 
     let mut lent = row.clone();
     let answer = ffi::read_node(image, k as u32, place, &mut lent);
     let check = expected_check(looked.as_ref().map(|_| ()).map_err(|&refusal| refusal));
-    let mut expected = ffi::Looked {
+    let mut expected = ffi::Station {
         number: check.number,
         fault_at: check.fault_at,
         fault_with: check.fault_with,
