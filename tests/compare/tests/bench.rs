@@ -33,7 +33,8 @@ fn names() -> Vec<String> {
 #[test]
 fn the_folder_of_inputs() {
     let listed: Vec<u8> = (names().iter())
-        .flat_map(|name| reference::bench::listing(&bytes(&format!("crates/bench_cases/data/{name}"))))
+        .map(|name| bytes(&format!("crates/bench_cases/data/{name}")))
+        .flat_map(|input| reference::bench::listing(&input))
         .collect();
     assert_eq!(listed, bytes("crates/bench_cases/stdout"));
 }
