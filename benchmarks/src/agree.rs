@@ -1,98 +1,10 @@
 //! The self-check: the library and the plain version must answer alike and leave the same words and bytes.
 
 use crate::plots::Tables;
+use crate::random::Random;
+use crate::seen::Seen;
 use crate::{abi, plain};
 use std::fmt::Debug;
-
-/// Numbers that look random, always the same ones for a seed.
-pub struct Random(u64);
-
-impl Random {
-    pub fn new(seed: u64) -> Random {
-        Random(seed.wrapping_mul(0x9E37_79B9_7F4A_7C15) | 1)
-    }
-
-    fn next(&mut self) -> u64 {
-        self.0 ^= self.0 << 13;
-        self.0 ^= self.0 >> 7;
-        self.0 ^= self.0 << 17;
-        self.0.wrapping_mul(0x2545_F491_4F6C_DD1D) >> 16
-    }
-
-    /// From 0 to below the end.
-    fn below(&mut self, end: usize) -> usize {
-        (self.next() % end as u64) as usize
-    }
-
-    /// Once in so many times.
-    fn once_in(&mut self, times: usize) -> bool {
-        self.below(times) == 0
-    }
-
-    /// A word that is likely to be near an end of some range.
-    fn word(&mut self) -> u32 {
-        let near = self.below(20) as u32;
-        match self.below(8) {
-            0 => u32::MAX - near,
-            1 => 32_750 + near,
-            2 => 32_760u32.wrapping_neg().wrapping_sub(near),
-            3 => self.next() as u32,
-            4 => 1 << self.below(32),
-            _ => near,
-        }
-    }
-}
-
-/// What was seen: how many calls, and each returned number and rule.
-#[derive(Default)]
-pub struct Seen {
-    pub calls: usize,
-    pub numbers: [usize; 16],
-    pub rules: Vec<(char, usize)>,
-}
-
-impl Seen {
-    fn number(&mut self, number: u32) {
-        self.calls += 1;
-        self.numbers[number as usize] += 1;
-    }
-
-    fn rule(&mut self, rule: u32) {
-        let letter = char::from(rule as u8);
-        match self.rules.iter_mut().find(|(seen, _)| *seen == letter) {
-            Some((_, times)) => *times += 1,
-            None => self.rules.push((letter, 1)),
-        }
-    }
-
-    /// Numbers 0 to 14, all nine rules and a refusal occurred.
-    pub fn is_whole(&self) -> bool {
-        self.numbers[..15].iter().all(|&times| times > 0) && self.rules.len() == 10
-    }
-
-    /// One line on what was seen.
-    pub fn line(&self) -> String {
-        let counted = self.numbers.iter().enumerate().filter(|(_, &n)| n > 0);
-        let numbers: Vec<String> = counted.map(|(k, n)| format!("{k}: {n}")).collect();
-        let mut rules = self.rules.clone();
-        rules.sort();
-        let rules: Vec<String> = rules.iter().map(|(r, n)| format!("{r}: {n}")).collect();
-        format!(
-            "self-check: {} calls alike; numbers {}; rules {}",
-            self.calls,
-            numbers.join(", "),
-            rules.join(", ")
-        )
-    }
-}
-
-/// Stops the program if the two differ.
-fn same<T: PartialEq + Debug>(what: impl FnOnce() -> String, library: &T, plain: &T) {
-    if library != plain {
-        eprintln!("{}\n  library: {library:?}\n  plain:   {plain:?}", what());
-        std::process::abort();
-    }
-}
 
 /// Compares both on random histories of so many calls, for each n and seed.
 pub fn run(seeds: u64, calls: usize) -> Seen {
@@ -329,4 +241,12 @@ fn check(tables: &Tables, seen: &mut Seen) {
     let plain = plain::check(tables.n, &tables.nodes, &tables.channels);
     same(|| format!("check of {tables:?}"), &library, &plain);
     seen.number(library.number);
+}
+
+/// Stops the program if the two differ.
+fn same<T: PartialEq + Debug>(what: impl FnOnce() -> String, library: &T, plain: &T) {
+    if library != plain {
+        eprintln!("{}\n  library: {library:?}\n  plain:   {plain:?}", what());
+        std::process::abort();
+    }
 }

@@ -2,7 +2,7 @@
 //!
 //! `benchmarks [--quick | --check] [file.svg]`: `--quick` takes fewer batches, `--check` only compares, at length.
 
-// The library's calls: the file of the Rust library, which says why.
+// rust/src/ffi.rs, taken in whole; it says why.
 #[path = "../../rust/src/ffi.rs"]
 mod abi;
 mod agree;
@@ -11,8 +11,10 @@ mod floor;
 mod measure;
 mod plain;
 mod plots;
+mod random;
 mod report;
 mod rows;
+mod seen;
 mod stack;
 
 use std::time::Instant;

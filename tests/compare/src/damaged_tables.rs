@@ -2,7 +2,7 @@
 
 use crate::beside::{Beside, compare_check, compare_save, compare_step};
 use crate::damage;
-use crate::histories::{any_event, planted_event};
+use crate::events::{any_event, planted_event};
 use crate::planted;
 use crate::random::Random;
 use crate::tally::Tally;

@@ -1,14 +1,15 @@
 //! Random histories in both: channels go up and down at one end only, messages are received in any order of channels.
 
-use crate::beside::{Beside, compare_restore};
-use crate::damage;
+mod resumes;
+
+use crate::beside::Beside;
+use crate::events::{any_event, likely_pairs, of_those, planted_event, receipt, waiting_pairs};
 use crate::planted;
 use crate::random::Random;
 use crate::tally::Tally;
-use reference::history::History;
-use reference::image;
-use reference::plot::{Plot, ordered_pairs};
+use reference::plot::ordered_pairs;
 use reference::step::Event;
+use resumes::Kept;
 
 /// What a history does next.
 #[derive(Clone, Copy)]
@@ -48,13 +49,6 @@ const WEIGHTS: [[usize; 11]; 5] = [
     [150, 20, 15, 10, 5, 1, 2, 1, 1, 1, 1],
     [10, 45, 35, 5, 0, 0, 2, 1, 1, 1, 1],
 ];
-
-/// A save of the list: the bytes, the plot and the history as they stood.
-struct Kept {
-    image: Vec<u8>,
-    plot: Plot,
-    history: History,
-}
 
 /// A history under way.
 struct Run {
@@ -101,83 +95,6 @@ pub fn planted_history(seed: u64, tally: &mut Tally) {
     }
     let image = beside.save(&mut random, tally);
     beside.resume(&image, tally);
-}
-
-/// Mostly a receipt of a message that waits, sometimes a channel up or down, sometimes anything.
-pub fn planted_event(plot: &Plot, random: &mut Random) -> Event {
-    let waiting = waiting_pairs(plot);
-    let pairs = ordered_pairs(plot.n);
-    let up: Vec<_> = of_those(&pairs, |u, v| plot.is_up(u, v));
-    let choice = match random.below(10) {
-        0..=5 => random.pick_any(&waiting).map(receipt),
-        6..=8 => random.pick_any(&up).map(|(u, v)| Event::Down { u, v }),
-        _ => random.pick_any(&pairs).map(|(u, v)| Event::Up { u, v }),
-    };
-    choice.unwrap_or_else(|| any_event(plot.n, random))
-}
-
-/// An event with numbers that may name no station, or one twice.
-pub fn any_event(n: i64, random: &mut Random) -> Event {
-    let last = i64::from(u32::MAX);
-    let odd = [
-        0,
-        0,
-        n + 1,
-        16,
-        17,
-        32,
-        33,
-        64,
-        65,
-        256,
-        257,
-        last - 1,
-        last,
-    ];
-    let mut any = || {
-        if random.chance(70) {
-            random.between(1, n)
-        } else {
-            random.pick(&odd)
-        }
-    };
-    let (u, v) = (any(), any());
-    match random.below(3) {
-        0 => Event::Up { u, v },
-        1 => Event::Down { u, v },
-        _ => Event::Receipt { from: u, to: v },
-    }
-}
-
-fn receipt((from, to): (i64, i64)) -> Event {
-    Event::Receipt { from, to }
-}
-
-fn of_those(pairs: &[(i64, i64)], wanted: impl Fn(i64, i64) -> bool) -> Vec<(i64, i64)> {
-    let those = pairs.iter().copied();
-    those.filter(|&(u, v)| wanted(u, v)).collect()
-}
-
-/// The channels with a message.
-fn waiting_pairs(plot: &Plot) -> Vec<(i64, i64)> {
-    let channels = plot.channels.iter();
-    let with_message = channels.filter(|(_, waiting)| !waiting.is_empty());
-    with_message.map(|(&pair, _)| pair).collect()
-}
-
-/// The pairs that a history mostly links: a line, a ring, a star, a tree, or all of them. Chains of stations are where levels
-/// start, meet and come back.
-fn likely_pairs(n: i64, random: &mut Random) -> Vec<(i64, i64)> {
-    let shape = random.below(5);
-    let mut ones: Vec<(i64, i64)> = match shape {
-        0 => (2..=n).map(|k| (k - 1, k)).collect(),
-        1 => (1..=n).map(|k| (k, k % n + 1)).collect(),
-        2 => (2..=n).map(|k| (1, k)).collect(),
-        3 => (2..=n).map(|k| (random.between(1, k - 1), k)).collect(),
-        _ => ordered_pairs(n),
-    };
-    ones.retain(|(u, v)| u != v);
-    ones
 }
 
 impl Run {
@@ -313,67 +230,6 @@ impl Run {
     fn wrong(&mut self, tally: &mut Tally) {
         let event = any_event(self.beside.n(), &mut self.random);
         self.step(event, tally);
-    }
-
-    fn save(&mut self, tally: &mut Tally) {
-        let image = self.beside.save(&mut self.random, tally);
-        self.kept.push(Kept {
-            image,
-            plot: self.beside.plot.clone(),
-            history: self.beside.history.clone(),
-        });
-    }
-
-    /// Resumes any image that was saved.
-    fn resume(&mut self, tally: &mut Tally) {
-        if self.kept.is_empty() {
-            return;
-        }
-        let chosen = self.random.below(self.kept.len());
-        let same_bytes = |kept: &Kept| kept.image == self.kept[chosen].image;
-        let last = self.kept.iter().rposition(same_bytes);
-        self.resume_kept(last.expect("the chosen one at least"), tally);
-    }
-
-    /// "an accepted resume puts back the history as it stood at the last save before it that wrote these bytes." `last` is that
-    /// save.
-    fn resume_kept(&mut self, last: usize, tally: &mut Tally) {
-        let kept = &self.kept[last];
-        self.beside.resume(&kept.image, tally);
-        assert_eq!(self.beside.plot, kept.plot, "the plot at the save");
-        self.beside.history = kept.history.clone();
-        self.assert_history_agrees();
-        self.beside.check_quiet(tally);
-    }
-
-    /// "or any bytes that it refuses": the tables stay.
-    fn bad_resume(&mut self, tally: &mut Tally) {
-        let mut bytes = image::write(&self.beside.plot);
-        damage::damage_image(&mut bytes, &self.beside.plot, &mut self.random);
-        let lent = &self.beside.tables;
-        if image::resume(&bytes, lent.nodes.len(), lent.channels.len()).is_err() {
-            compare_restore(&bytes, lent.clone(), tally);
-        }
-    }
-
-    /// "After an accepted resume, for every list of events: each answer, and at the end each clock, set and height and each
-    /// channel's messages in order, equal those that the same events give from the plot at the save."
-    fn there_and_back(&mut self, tally: &mut Tally) {
-        self.save(tally);
-        let last = self.kept.len() - 1;
-        let mut list = Vec::new();
-        for _ in 0..self.random.between(1, 30) {
-            let event = planted_event(&self.beside.plot, &mut self.random);
-            list.push((event, self.beside.step(event, tally)));
-        }
-        let end = self.beside.tables.clone();
-        self.resume_kept(last, tally);
-        for (event, answer) in list {
-            assert_eq!(self.beside.step(event, tally), answer, "after a resume");
-        }
-        assert_eq!(self.beside.tables, end, "after a resume");
-        self.left -= 10;
-        tally.note("lists repeated after a resume");
     }
 
     fn assert_history_agrees(&self) {

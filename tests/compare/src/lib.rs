@@ -7,7 +7,8 @@ pub mod beside;
 pub mod damage;
 pub mod damaged_images;
 pub mod damaged_tables;
-// The calls of libabi.a: the file of the Rust library, which says why.
+pub mod events;
+// rust/src/ffi.rs, taken in whole; it says why.
 #[path = "../../../rust/src/ffi.rs"]
 pub mod ffi;
 pub mod histories;
