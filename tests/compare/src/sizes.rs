@@ -57,6 +57,22 @@ pub fn wrong_sizes(seed: u64, tally: &mut Tally) {
     }
 }
 
+/// n = 17 with zeros of exactly the length for 17: nothing but n is wrong, so both answer 1.
+pub fn seventeen_stations(tally: &mut Tally) {
+    let lent = Tables {
+        nodes: vec![0; 17 * 122],
+        channels: vec![0; 17 * 17 * 65],
+    };
+    assert_eq!(lent.nodes.len(), tables::nodes_len(17));
+    assert_eq!(lent.channels.len(), tables::channels_len(17));
+    compare_check(17, &lent, tally);
+    compare_step(17, Event::Up { u: 1, v: 2 }, &lent, tally);
+    compare_step(17, Event::Down { u: 1, v: 2 }, &lent, tally);
+    compare_step(17, Event::Receipt { from: 1, to: 2 }, &lent, tally);
+    compare_save(17, &lent, image::longest(17), &mut Random::new(17), tally);
+    compare_fresh(17, lent, tally);
+}
+
 fn image_of(n: i64, sound: &Tables) -> Vec<u8> {
     image::save(n, &sound.nodes, &sound.channels, usize::MAX).expect("sound tables")
 }

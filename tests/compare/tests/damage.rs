@@ -1,7 +1,8 @@
 //! Damaged tables and images beside the reference: the same number with the same pair, and nothing lent changed.
 
 use compare::rounds::run;
-use compare::sizes::compare_lengths;
+use compare::sizes::{self, compare_lengths};
+use compare::tally::Tally;
 
 #[test]
 fn tables() {
@@ -35,6 +36,14 @@ fn sizes() {
     tally.assert_met(&["check 0", "check 1", "up 1", "down 1", "receipt 1"]);
     tally.assert_met(&["save 0", "save 1", "restore 0", "restore 1"]);
     tally.assert_met(&["fresh 0", "fresh 1"]);
+}
+
+#[test]
+fn seventeen_stations() {
+    let mut tally = Tally::default();
+    sizes::seventeen_stations(&mut tally);
+    tally.assert_met(&["check 1", "up 1", "down 1", "receipt 1"]);
+    tally.assert_met(&["save 1", "fresh 1"]);
 }
 
 #[test]
