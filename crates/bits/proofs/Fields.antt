@@ -5,7 +5,7 @@ use native.Mathlib.Nat.{add-zero, mod-eq-of-lt}
 use native.Mathlib.Numerals.{add-one}
 use native.Mathlib.Omega.{arith}
 use mathlib.Core.Path.{_≡_, refl, sym, ap, ap₂, _∙_}
-use mathlib.Core.List.{List, [], _∷_, _++_, append-assoc}
+use mathlib.Core.List.{List, [], _∷_, _++_, append-assoc, append-nil}
 use lib.ListN.{length, take, drop, getD, set, length-append, length-take, length-drop, take-append-drop}
 use lib.Seq.{take-at, drop-at, take-suc, drop-cons, drop-drop, take-add, set-at}
 use Rattle.bits.specs.Bits.{bits, number, unpacked, field, written, total, spread, gathered}
@@ -101,6 +101,16 @@ unfolding total
 total-more ws k h =
     ap (λ (n : ℕ). total (take n ws)) (add-one k) ∙ ap total (take-suc ws k 0 h) ∙ total-append (take k ws) (getD ws k 0 ∷ [])
     ∙ ap (λ (x : ℕ). total (take k ws) + x) (add-zero (getD ws k 0))
+
+pub spread-more : (ws vs : List ℕ) (k : ℕ) → k < length ws → length ws ≡ length vs
+    → spread (take (k + 1) ws) (take (k + 1) vs) ≡ spread (take k ws) (take k vs) ++ bits (getD ws k 0) (getD vs k 0)
+unfolding spread
+spread-more ws vs k h e =
+    let a : length (take k ws) ≡ length (take k vs) = simp length-take (omega arith) in
+    ap (λ (n : ℕ). spread (take n ws) (take n vs)) (add-one k)
+    ∙ ap₂ spread (take-suc ws k 0 h) (take-suc vs k 0 (omega arith))
+    ∙ spread-append (take k ws) (getD ws k 0 ∷ []) (take k vs) (getD vs k 0 ∷ []) a
+    ∙ ap (λ (t : List ℕ). spread (take k ws) (take k vs) ++ t) (append-nil (bits (getD ws k 0) (getD vs k 0)))
 
 pub gathered-more : (ws bs : List ℕ) (k : ℕ) → k < length ws
     → gathered (take (k + 1) ws) bs ≡ gathered (take k ws) bs ++ (number (take (getD ws k 0) (drop (total (take k ws)) bs)) ∷ [])

@@ -7,3 +7,4 @@ pub mod Turns
 pub mod SixtyFour
 pub mod Fields
 pub mod Holding
+pub mod Seeing

@@ -1,12 +1,12 @@
 -- Sixty-four bits at once: eight bytes loaded and stored, a field cut out of them, fields joined to them.
 -- Assumes nothing.
 use Prim.Native.Nat.{ℕ, _+_, _-_, _*_, _/_, _%_, _^_, _≤_, _<_}
-use native.Mathlib.Nat.{pow-zero, mod-eq-of-lt, mod-lt, div-one, lt-of-lt-of-le, le-of-eq}
+use native.Mathlib.Nat.{pow-zero, mod-eq-of-lt, mod-lt, div-one, add-zero, lt-of-lt-of-le}
 use native.Mathlib.Omega.{arith}
 use mathlib.Core.Path.{_≡_, refl, sym, ap, ap₂, subst, _∙_}
 use mathlib.Core.List.{List, _++_, append-assoc, append-nil}
 use lib.ListN.{length, getD, set, length-set, drop-of-length-le}
-use lib.Pow.{pow-pos, pow-add, shl-exact, shr-lt, shr-le, pow-mono, mod-mod-pow}
+use lib.Pow.{pow-pos, pow-add, shl-exact, shl-shr, shr-shr, shr-lt, shr-le, pow-mono, mod-pow-add, mod-mod-pow}
 use lib.Pow
 use lib.Arith.{digits-lt}
 use Rattle.bits.specs.Bits.{bits, unpacked, over, field, written}
@@ -40,21 +40,59 @@ cut-number x a f g w r e hg hf =
     e ∙ ap (λ (p : ℕ). a * p + (f * 2 ^ r + g)) (pow-add 2 w r) ∙ sym (add-mul-assoc a (2 ^ w) f (2 ^ r) g) in
     ap (λ (y : ℕ). y / 2 ^ r % 2 ^ w) s ∙ ap (λ (y : ℕ). y % 2 ^ w) (Pow.high (a * 2 ^ w + f) r hg) ∙ Pow.low a w hf
 
--- a field out of the eight bytes from its first on
-pub cut : (xs : List ℕ) (at w : ℕ) → at / 8 + 8 ≤ length xs → w ≤ 32
-    → field xs (8 * (at / 8)) 64 / 2 ^ (64 - at % 8 - w) % 2 ^ w ≡ field xs at w
-cut xs at w h n =
+-- a field out of the 64 bits from a place on
+pub cut-at : (xs : List ℕ) (at u w : ℕ) → at + 64 ≤ 8 * length xs → u + w ≤ 64
+    → field xs at 64 / 2 ^ (64 - u - w) % 2 ^ w ≡ field xs (at + u) w
+cut-at xs at u w h n =
+    let r : ℕ = 64 - u - w in
+    let e : 64 ≡ u + (w + r) = omega arith in
+    let s : field xs at 64 ≡ field xs at u * 2 ^ (w + r) + (field xs (at + u) w * 2 ^ r + field xs (at + u + w) r) =
+    ap (field xs at) e ∙ field-add xs at u (w + r) (omega arith)
+    ∙ ap (λ (y : ℕ). field xs at u * 2 ^ (w + r) + y) (field-add xs (at + u) w r (omega arith)) in
+    cut-number (field xs at 64) (field xs at u) (field xs (at + u) w) (field xs (at + u + w) r) w r s
+    (field-lt xs (at + u + w) r (omega arith)) (field-lt xs (at + u) w (omega arith))
+
+-- the machine's shift to the left drops what is above 64 bits
+shl-drops : (v u : ℕ) → u ≤ 64 → v * 2 ^ u % 2 ^ 64 ≡ v % 2 ^ (64 - u) * 2 ^ u
+shl-drops v u h =
+    let s : 64 ≡ 64 - u + u = omega arith in
+    let z : v * 2 ^ u % 2 ^ u ≡ 0 = ap (λ (x : ℕ). x % 2 ^ u) (sym (add-zero (v * 2 ^ u))) ∙ Pow.low v u (pow-pos u) in
+    ap (λ (k : ℕ). v * 2 ^ u % 2 ^ k) s ∙ mod-pow-add (v * 2 ^ u) (64 - u) u
+    ∙ ap₂ (λ (x y : ℕ). x % 2 ^ (64 - u) * 2 ^ u + y) (shl-shr v u) z ∙ add-zero (v % 2 ^ (64 - u) * 2 ^ u)
+
+pub cut-machine : (v u w : ℕ) → u < 64 → w ≤ 32 → u + w ≤ 64
+    → v * 2 ^ u % 2 ^ 64 / 2 ^ 32 / 2 ^ (32 - w) ≡ v / 2 ^ (64 - u - w) % 2 ^ w
+cut-machine v u w h n k =
+    let r : ℕ = 64 - u - w in
+    let x : ℕ = v % 2 ^ (64 - u) in
+    let a : 32 + (32 - w) ≡ u + r = omega arith in
+    let b : 64 - u ≡ w + r = omega arith in
+    ap (λ (y : ℕ). y / 2 ^ 32 / 2 ^ (32 - w)) (shl-drops v u (omega arith))
+    ∙ shr-shr (x * 2 ^ u) 32 (32 - w) ∙ ap (λ (y : ℕ). x * 2 ^ u / 2 ^ y) a
+    ∙ sym (shr-shr (x * 2 ^ u) u r) ∙ ap (λ (y : ℕ). y / 2 ^ r) (shl-shr x u)
+    ∙ ap (λ (y : ℕ). v % 2 ^ y / 2 ^ r) b ∙ Pow.field v w r
+
+-- the 64 bits from a place on: eight bytes without their first bits, and the first bits of the ninth
+pub load-across : (xs : List ℕ) (at : ℕ) → at / 8 + 9 ≤ length xs → Below 256 xs
+    → field xs (8 * (at / 8)) 64 * 2 ^ (at % 8) % 2 ^ 64 + getD xs (at / 8 + 8) 0 / 2 ^ (8 - at % 8) ≡ field xs at 64
+load-across xs at h b =
     let o : ℕ = at % 8 in
     let i : ℕ = at / 8 in
-    let r : ℕ = 64 - o - w in
-    let e : 64 ≡ o + (w + r) = omega arith in
+    let y : ℕ = getD xs (i + 8) 0 in
     let p : 8 * i + o ≡ at = omega arith in
-    let s : field xs (8 * i) 64 ≡ field xs (8 * i) o * 2 ^ (w + r) + (field xs at w * 2 ^ r + field xs (at + w) r) =
-    ap (field xs (8 * i)) e ∙ field-add xs (8 * i) o (w + r) (omega arith)
-    ∙ ap (λ (q : ℕ). field xs (8 * i) o * 2 ^ (w + r) + field xs q (w + r)) p
-    ∙ ap (λ (y : ℕ). field xs (8 * i) o * 2 ^ (w + r) + y) (field-add xs at w r (omega arith)) in
-    cut-number (field xs (8 * i) 64) (field xs (8 * i) o) (field xs at w) (field xs (at + w) r) w r s
-    (field-lt xs (at + w) r (omega arith)) (field-lt xs at w (omega arith))
+    let q : 8 * (i + 8) + 0 ≡ at + (64 - o) = omega arith in
+    let s : 64 ≡ o + (64 - o) = omega arith in
+    let t : 64 - o + o ≡ 64 = omega arith in
+    let u : o + (8 - o) ≡ 8 = omega arith in
+    let top : y / 2 ^ (8 - o) < 2 ^ o = shr-lt o (8 - o) (subst (λ (k : ℕ). y < 2 ^ k) (sym u) (b (i + 8))) in
+    let first : field xs (8 * i) 64 % 2 ^ (64 - o) ≡ field xs at (64 - o) =
+    ap (λ (x : ℕ). x % 2 ^ (64 - o))
+    (ap (field xs (8 * i)) s ∙ field-add xs (8 * i) o (64 - o) (omega arith) ∙ ap (λ (k : ℕ). field xs (8 * i) o * 2 ^ (64 - o) + field xs k (64 - o)) p)
+    ∙ Pow.low (field xs (8 * i) o) (64 - o) (field-lt xs at (64 - o) (omega arith)) in
+    let last : field xs (at + (64 - o)) o ≡ y / 2 ^ (8 - o) =
+    ap (λ (k : ℕ). field xs k o) (sym q) ∙ field-byte xs (i + 8) 0 o (8 - o) (omega arith) (omega arith) ∙ mod-eq-of-lt top in
+    ap₂ (λ (x z : ℕ). x + z) (shl-drops (field xs (8 * i) 64) o (omega arith) ∙ ap (λ (x : ℕ). x * 2 ^ o) first) (sym last)
+    ∙ sym (field-add xs at (64 - o) o (omega arith)) ∙ ap (field xs at) t
 
 -- ---- writing
 over-all : (l bs : List ℕ) → length l ≡ length bs → over l 0 bs ≡ bs
@@ -124,54 +162,55 @@ fills c w r held v e h =
     ∙ sym (append-assoc (bits c held) (bits (w - r) (v / 2 ^ r)) (bits r v))
     ∙ ap₂ (λ (a b : List ℕ). a ++ b) (joins c (w - r) held (v / 2 ^ r) ∙ ap (λ (k : ℕ). bits k x) n) (sym (bits-mod r v))
 
--- a word at a place inside a byte: the byte's bits before the place are written where they stand
-pub word-written : (xs : List ℕ) (at v : ℕ) → Below 256 xs → at + 64 ≤ 8 * length xs → v < 2 ^ 64
-    → written (written xs (8 * (at / 8)) (bits 64 (getD xs (at / 8) 0 / 2 ^ (8 - at % 8) * 2 ^ (64 - at % 8) + v / 2 ^ (at % 8))))
-    (at + (64 - at % 8)) (bits (at % 8) (v % 2 ^ 8))
-    ≡ written xs at (bits 64 v)
-word-written xs at v b h small =
+-- m bytes' bits at a place inside a byte: the byte's bits before the place are written where they stand
+pub bytes-written : (xs : List ℕ) (at m v : ℕ) → Below 256 xs → 0 < m → at + 8 * m ≤ 8 * length xs → v < 2 ^ (8 * m)
+    → written (written xs (8 * (at / 8)) (bits (8 * m) (getD xs (at / 8) 0 / 2 ^ (8 - at % 8) * 2 ^ (8 * m - at % 8) + v / 2 ^ (at % 8))))
+    (at + (8 * m - at % 8)) (bits (at % 8) (v % 2 ^ 8))
+    ≡ written xs at (bits (8 * m) v)
+bytes-written xs at m v b pos h small =
     let o : ℕ = at % 8 in
     let i : ℕ = at / 8 in
-    let z : ℕ = 64 - o in
+    let z : ℕ = 8 * m - o in
     let x : ℕ = getD xs i 0 / 2 ^ (8 - o) in
     let y : List ℕ = bits z (v / 2 ^ o) in
     let p : 8 * i + o ≡ at = omega arith in
     let q : 8 * i + 0 ≡ 8 * i = omega arith in
-    let s : 64 ≡ z + o = omega arith in
-    let t : 64 ≡ o + z = omega arith in
+    let s : 8 * m ≡ z + o = omega arith in
+    let t : 8 * m ≡ o + z = omega arith in
     let l : v / 2 ^ o < 2 ^ z = shr-lt z o (subst (λ (k : ℕ). v < 2 ^ k) s small) in
     let own : written xs (8 * i) (bits o x) ≡ xs =
     ap (written xs (8 * i)) (sym (bits-mod o x) ∙ ap (bits o) (sym (field-byte xs i 0 o (8 - o) (omega arith) (omega arith)) ∙ ap (λ (k : ℕ). field xs k o) q))
     ∙ put-get xs (8 * i) o b (omega arith) in
-    let first : bits 64 (x * 2 ^ z + v / 2 ^ o) ≡ bits o x ++ y =
-    ap (λ (k : ℕ). bits 64 (x * 2 ^ z + k)) (sym (mod-eq-of-lt l)) ∙ ap (λ (k : ℕ). bits k (x * 2 ^ z + v / 2 ^ o % 2 ^ z)) t
+    let first : bits (8 * m) (x * 2 ^ z + v / 2 ^ o) ≡ bits o x ++ y =
+    ap (λ (k : ℕ). bits (8 * m) (x * 2 ^ z + k)) (sym (mod-eq-of-lt l)) ∙ ap (λ (k : ℕ). bits k (x * 2 ^ z + v / 2 ^ o % 2 ^ z)) t
     ∙ sym (joins o z x (v / 2 ^ o)) in
-    let start : written xs (8 * i) (bits 64 (x * 2 ^ z + v / 2 ^ o)) ≡ written xs at y =
+    let start : written xs (8 * i) (bits (8 * m) (x * 2 ^ z + v / 2 ^ o)) ≡ written xs at y =
     ap (written xs (8 * i)) first
     ∙ sym (written-written xs (8 * i) (bits o x) y (8 * i + o) (below-bits o x) (ap (λ (k : ℕ). 8 * i + k) (sym (length-bits o x)))
     (omega (arith, length-bits z (v / 2 ^ o))))
     ∙ ap₂ (λ (l : List ℕ) (k : ℕ). written l k y) own p in
-    ap₂ (λ (l m : List ℕ). written l (at + z) m) start (bits-low o 8 v (omega arith))
+    ap₂ (λ (l e : List ℕ). written l (at + z) e) start (bits-low o 8 v (omega arith))
     ∙ written-written xs at y (bits o v) (at + z) (below-bits z (v / 2 ^ o)) (ap (λ (k : ℕ). at + k) (sym (length-bits z (v / 2 ^ o))))
     (omega (arith, length-bits o v))
     ∙ ap (written xs at) (sym (bits-add z o v) ∙ ap (λ (k : ℕ). bits k v) (sym s))
 
--- the machine's sum for that word: nothing is shifted out
-module _ (x v o : ℕ) (l : 0 < o) (h : o < 8) (b : x < 2 ^ 8) (small : v < 2 ^ 64) where
+-- the machine's sum for these bytes: nothing is shifted out
+module _ (x v o m : ℕ) (l : 0 < o) (h : o < 8) (pos : 0 < m) (few : m ≤ 8) (b : x < 2 ^ 8) (small : v < 2 ^ (8 * m)) where
   byte-high : x / 2 ^ (8 - o) < 2 ^ o
   byte-high =
       let s : 8 ≡ o + (8 - o) = omega arith in
       shr-lt o (8 - o) (subst (λ (k : ℕ). x < 2 ^ k) s b)
 
-  pub word-machine : x / 2 ^ (8 - o) * 2 ^ (64 - o) % 2 ^ 64 + v / 2 ^ o ≡ x / 2 ^ (8 - o) * 2 ^ (64 - o) + v / 2 ^ o
-  word-machine = ap (λ (k : ℕ). k + v / 2 ^ o) (shl-exact o (64 - o) 64 byte-high (omega arith))
+  pub bytes-machine : x / 2 ^ (8 - o) * 2 ^ (8 * m - o) % 2 ^ 64 + v / 2 ^ o ≡ x / 2 ^ (8 - o) * 2 ^ (8 * m - o) + v / 2 ^ o
+  bytes-machine = ap (λ (k : ℕ). k + v / 2 ^ o) (shl-exact o (8 * m - o) 64 byte-high (omega arith))
 
-  pub word-fits : x / 2 ^ (8 - o) * 2 ^ (64 - o) % 2 ^ 64 + v / 2 ^ o < 2 ^ 64
-  word-fits =
-      let s : 64 ≡ 64 - o + o = omega arith in
-      let t : o + (64 - o) ≡ 64 = omega arith in
-      let low : v / 2 ^ o < 2 ^ (64 - o) = shr-lt (64 - o) o (subst (λ (k : ℕ). v < 2 ^ k) s small) in
-      rw word-machine (lt-of-lt-of-le (digits-lt byte-high low) (le-of-eq (sym (pow-add 2 o (64 - o)) ∙ ap (λ (k : ℕ). 2 ^ k) t)))
+  pub bytes-fit : x / 2 ^ (8 - o) * 2 ^ (8 * m - o) % 2 ^ 64 + v / 2 ^ o < 2 ^ 64
+  bytes-fit =
+      let s : 8 * m ≡ 8 * m - o + o = omega arith in
+      let t : o + (8 * m - o) ≤ 64 = omega arith in
+      let low : v / 2 ^ o < 2 ^ (8 * m - o) = shr-lt (8 * m - o) o (subst (λ (k : ℕ). v < 2 ^ k) s small) in
+      rw bytes-machine
+      (lt-of-lt-of-le (digits-lt byte-high low) (subst (λ (k : ℕ). k ≤ 2 ^ 64) (pow-add 2 o (8 * m - o)) (pow-mono t)))
 
 pub byte-high-fits : (x k : ℕ) → x < 2 ^ 8 → x / 2 ^ k < 2 ^ 64
 byte-high-fits x k b = omega (arith, shr-le x k)

@@ -30,10 +30,8 @@ pub fn get(bytes: &[u8], at: usize, width: usize) -> u32
     ensures { λ v. ⌜ v ≡ field (now (bytes .entry)) at width ⌝ }
 {
     let i = at / 8;
-    if 0 < width {
-        if i + 8 <= bytes.len() {
-            return words::part(words::load(bytes, i), at % 8, width);
-        }
+    if i + 8 <= bytes.len() {
+        return words::cut(words::load(bytes, i), at % 8, width);
     }
     get_by_bytes(bytes, at, width)
 }
@@ -73,6 +71,18 @@ pub fn put(buf: &mut [u8], at: usize, width: usize, value: u32)
     requires { ⌜ (width ≤ 32) × ((at < 2 ^ 32) × (at + width ≤ 8 * length (now buf))) ⌝ }
     ensures { λ _. ⌜ now (buf .exit) ≡ written (now (buf .entry)) at (bits width value) ⌝ }
 {
+    if width == 32 {
+        put_bytes(buf, at, 4, long(value));
+        return;
+    }
+    put_by_bytes(buf, at, width, value);
+}
+
+// The same byte by byte.
+fn put_by_bytes(buf: &mut [u8], at: usize, width: usize, value: u32)
+    requires { ⌜ (width ≤ 32) × ((at < 2 ^ 32) × (at + width ≤ 8 * length (now buf))) ⌝ }
+    ensures { λ _. ⌜ now (buf .exit) ≡ written (now (buf .entry)) at (bits width value) ⌝ }
+{
     let mut done: usize = 0;
     while done < width {
         let place = at + done;
@@ -82,6 +92,30 @@ pub fn put(buf: &mut [u8], at: usize, width: usize, value: u32)
         buf[i] = spliced(buf[i], place % 8, n, p);
         done += n;
     }
+}
+
+// The low 8 m bits of a number go to a bit place: m bytes, and where the place is inside a byte, a part of the next.
+fn put_bytes(buf: &mut [u8], at: usize, m: usize, value: u64)
+    requires { ⌜ ((0 < m) × (m ≤ 8)) × ((at + 8 * m ≤ 8 * length (now buf)) × (value < 2 ^ (8 * m))) ⌝ }
+    ensures { λ _. ⌜ now (buf .exit) ≡ written (now (buf .entry)) at (bits (8 * m) value) ⌝ }
+{
+    let i = at / 8;
+    let off = at % 8;
+    if off == 0 {
+        words::store(buf, i, m, value);
+        return;
+    }
+    let before = (buf[i] >> (8 - off)) as u64;
+    words::store(buf, i, m, (before << (8 * m - off)) + (value >> off));
+    put_first(buf, i + m, off, (value % 256) as u32);
+}
+
+// The low n bits of a value go to the front of byte i.
+fn put_first(buf: &mut [u8], i: usize, n: usize, value: u32)
+    requires { ⌜ (0 < n) × ((n < 8) × (i < length (now buf))) ⌝ }
+    ensures { λ _. ⌜ now (buf .exit) ≡ written (now (buf .entry)) (8 * i) (bits n value) ⌝ }
+{
+    buf[i] = spliced(buf[i], 0, n, digits(value, n, 0));
 }
 
 fn wide(w: u8) -> usize
@@ -103,49 +137,11 @@ fn put_long(buf: &mut [u8], at: usize, width: usize, value: u64)
 {
     let low = (value % 4294967296) as u32;
     if width <= 32 {
-        put_low(buf, at, width, low);
+        put(buf, at, width, low);
         return;
     }
-    put_low(buf, at, width - 32, (value >> 32) as u32);
-    put_low(buf, at + (width - 32), 32, low);
-}
-
-// As `put`, with four whole bytes at once where it is these.
-fn put_low(buf: &mut [u8], at: usize, width: usize, value: u32)
-    requires { ⌜ (width ≤ 32) × ((at + width < 2 ^ 32) × (at + width ≤ 8 * length (now buf))) ⌝ }
-    ensures { λ _. ⌜ now (buf .exit) ≡ written (now (buf .entry)) at (bits width value) ⌝ }
-{
-    if width == 32 {
-        if at % 8 == 0 {
-            words::store(buf, at / 8, 4, long(value));
-            return;
-        }
-    }
-    put(buf, at, width, value);
-}
-
-// The 64 bits of a number go to a bit place: eight bytes, and where the place is inside a byte, a part of the ninth.
-fn put_word(buf: &mut [u8], at: usize, value: u64)
-    requires { ⌜ (at + 64 < 2 ^ 32) × (at + 64 ≤ 8 * length (now buf)) ⌝ }
-    ensures { λ _. ⌜ now (buf .exit) ≡ written (now (buf .entry)) at (bits 64 value) ⌝ }
-{
-    let i = at / 8;
-    let off = at % 8;
-    if off == 0 {
-        words::store(buf, i, 8, value);
-        return;
-    }
-    let before = (buf[i] >> (8 - off)) as u64;
-    words::store(buf, i, 8, (before << (64 - off)) + (value >> off));
-    put_first(buf, i + 8, off, (value % 256) as u32);
-}
-
-// The low n bits of a value go to the front of byte i.
-fn put_first(buf: &mut [u8], i: usize, n: usize, value: u32)
-    requires { ⌜ (0 < n) × ((n < 8) × (i < length (now buf))) ⌝ }
-    ensures { λ _. ⌜ now (buf .exit) ≡ written (now (buf .entry)) (8 * i) (bits n value) ⌝ }
-{
-    buf[i] = spliced(buf[i], 0, n, digits(value, n, 0));
+    put(buf, at, width - 32, (value >> 32) as u32);
+    put(buf, at + (width - 32), 32, low);
 }
 
 // Values go to fields end to end from a bit place on, each at its width. Bits are held back until there are 64.
@@ -165,7 +161,7 @@ pub fn put_fields(buf: &mut [u8], at: usize, widths: &[u8], values: &[u32])
             count += w;
         } else {
             let rest = count + w - 64;
-            put_word(buf, place, words::joined(held, v >> rest, w - rest));
+            put_bytes(buf, place, 8, words::joined(held, v >> rest, w - rest));
             place += 64;
             held = v % (1u64 << rest);
             count = rest;
@@ -177,6 +173,43 @@ pub fn put_fields(buf: &mut [u8], at: usize, widths: &[u8], values: &[u32])
 
 // The values of the fields that stand end to end from a bit place on.
 pub fn get_fields(bytes: &[u8], at: usize, widths: &[u8], values: &mut [u32])
+    requires { ⌜ RoomFor (now bytes) at (now widths) × (length (now widths) ≡ length (now values)) × (length (now widths) ≤ 256) ⌝ }
+    ensures { λ _. ⌜ now (values .exit) ≡ gathered (now (widths .entry)) (drop at (unpacked (now (bytes .entry)))) ⌝ }
+{
+    if at / 8 + 4 * widths.len() + 9 <= bytes.len() {
+        get_inside(bytes, at, widths, values);
+        return;
+    }
+    get_near_end(bytes, at, widths, values);
+}
+
+// The same where 64 bits can be looked at from each field on: out of them, until they are used up.
+fn get_inside(bytes: &[u8], at: usize, widths: &[u8], values: &mut [u32])
+    requires { ⌜ RoomFor (now bytes) at (now widths) × (length (now widths) ≡ length (now values))
+        × (at / 8 + 4 * length (now widths) + 9 ≤ length (now bytes)) ⌝ }
+    ensures { λ _. ⌜ now (values .exit) ≡ gathered (now (widths .entry)) (drop at (unpacked (now (bytes .entry)))) ⌝ }
+{
+    let mut start = at;
+    let mut seen = words::load_at(bytes, at);
+    let mut used: usize = 0;
+    let mut k: usize = 0;
+    while k < widths.len() {
+        let w = wide(widths[k]);
+        if used + w < 64 {
+            values[k] = words::cut(seen, used, w);
+            used += w;
+        } else {
+            start += used;
+            seen = words::load_at(bytes, start);
+            values[k] = words::cut(seen, 0, w);
+            used = w;
+        }
+        k += 1;
+    }
+}
+
+// The same field by field, near the end.
+fn get_near_end(bytes: &[u8], at: usize, widths: &[u8], values: &mut [u32])
     requires { ⌜ RoomFor (now bytes) at (now widths) × (length (now widths) ≡ length (now values)) ⌝ }
     ensures { λ _. ⌜ now (values .exit) ≡ gathered (now (widths .entry)) (drop at (unpacked (now (bytes .entry)))) ⌝ }
 {

@@ -45,12 +45,24 @@ pub fn store(buf: &mut [u8], i: usize, m: usize, v: u64)
     }
 }
 
-// `width` bits of a number, from its bit `off` on, counted from the most significant.
-pub fn part(v: u64, off: usize, width: usize) -> u32
-    requires { ⌜ (off < 8) × ((0 < width) × (width ≤ 32)) ⌝ }
-    ensures { λ r. ⌜ r ≡ v / 2 ^ (64 - off - width) % 2 ^ width ⌝ }
+// `width` bits of a number, behind its first `used`, counted from the most significant.
+pub fn cut(v: u64, used: usize, width: usize) -> u32
+    requires { ⌜ (used < 64) × ((width ≤ 32) × (used + width ≤ 64)) ⌝ }
+    ensures { λ r. ⌜ r ≡ v / 2 ^ (64 - used - width) % 2 ^ width ⌝ }
 {
-    ((v >> (64 - off - width)) % (1u64 << width)) as u32
+    (((v << used) >> 32) >> (32 - width)) as u32
+}
+
+// The 64 bits from a bit place on: eight bytes and a part of the ninth.
+pub fn load_at(bytes: &[u8], at: usize) -> u64
+    requires { ⌜ at / 8 + 9 ≤ length (now bytes) ⌝ }
+    ensures { λ v. ⌜ v ≡ field (now (bytes .entry)) at 64 ⌝ }
+{
+    let i = at / 8;
+    let off = at % 8;
+    let first = load(bytes, i);
+    let last = long(bytes[i + 8]);
+    (first << off) + (last >> (8 - off))
 }
 
 // The number of the bits of `held` and then the low w bits of v.

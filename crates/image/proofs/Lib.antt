@@ -3,6 +3,7 @@
 pub mod RowsMore
 pub mod FieldInLaws
 pub mod RecordLaws
+pub mod StampLaws
 pub mod WalkLaws
 pub mod ChannelLaws
 pub mod PlaceLaws

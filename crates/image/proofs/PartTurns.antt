@@ -98,8 +98,9 @@ module _ {d m w n : ℕ} {start ws : List ℕ} {at : ℕ} (r : Run d m w n start
         wide : length us ≡ m
         wide = ap length row ∙ length-row-at m n k ws (r .words) h
 
-        pub put-room : RoomFor xs place (take (length (take (e - a) (drop a ws))) (widthsOf d)) × (length (take (e - a) (drop a ws)) ≤ 8)
-        put-room = rw wide (room xs place d m w (r .depth .high) (r .bits) (omega (arith, put-fits)) (put-fits .0), r .most)
+        pub put-room : RoomFor xs place (take (length (take (e - a) (drop a ws))) (widthsOf d))
+            × ((7 ≤ length (take (e - a) (drop a ws))) × (length (take (e - a) (drop a ws)) ≤ 8))
+        put-room = rw wide (room xs place d m w (r .depth .high) (r .bits) (omega (arith, put-fits)) (put-fits .0), (r .least, r .most))
 
         pub put-next : {ys : List ℕ} → ys ≡ written xs place (recordBits d (take (e - a) (drop a ws)))
             → Putting d m w n ws start at (place + w) (k + 1) ys

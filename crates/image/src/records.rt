@@ -30,14 +30,16 @@ fn extended(v: u32, width: u32) -> u32
     }
 }
 
-// The words go to a bit place.
+// The words go to a bit place: a height's seven at once, so that the compiler knows how many.
 pub fn put_record(buf: &mut [u8], at: usize, depth: u8, words: &[u32])
-    requires { ⌜ RoomFor (now buf) at (take (length (now words)) (widthsOf depth)) × (length (now words) ≤ 8) ⌝ }
+    requires { ⌜ RoomFor (now buf) at (take (length (now words)) (widthsOf depth)) × ((7 ≤ length (now words)) × (length (now words) ≤ 8)) ⌝ }
     ensures { λ _. ⌜ now (buf .exit) ≡ written (now (buf .entry)) at (recordBits depth (now (words .entry))) ⌝ }
 {
     let w = widths(depth);
-    let n = words.len();
-    bits::put_fields(buf, at, &w[..n], words);
+    bits::put_fields(buf, at, &w[..7], &words[..7]);
+    if words.len() == 8 {
+        bits::put(buf, at + (80 + depth as usize), 32, words[7]);
+    }
 }
 
 // The words at a bit place.
@@ -46,7 +48,9 @@ pub fn get_record(bytes: &[u8], at: usize, depth: u8, words: &mut [u32])
     ensures { λ _. ⌜ now (words .exit) ≡ recordOf depth (length (now (words .entry))) (drop at (unpacked (now (bytes .entry)))) ⌝ }
 {
     let w = widths(depth);
-    let n = words.len();
-    bits::get_fields(bytes, at, &w[..n], words);
+    bits::get_fields(bytes, at, &w[..7], &mut words[..7]);
     words[3] = extended(words[3], depth as u32);
+    if words.len() == 8 {
+        words[7] = bits::get(bytes, at + (80 + depth as usize), 32);
+    }
 }

@@ -5,17 +5,17 @@ ghost use Rattle.tables.specs.Tables.{given, before, Sized};
 ghost use Rattle.network.specs.Check.{saidCheck, place, firstFault};
 use super::Checked;
 
+// The place of the pair u, v. As `places::place_in`, but with its parts called here, where the compiler opens them (docs/PERFORMANCE.md).
 fn place_holds(n: u32, u: u32, v: u32, nodes: &[u32], channels: &[u32]) -> bool
     requires { ⌜ Sized n (given nodes channels) × Node n u × Node n v ⌝ }
     ensures { λ r. ⌜ r ≡ place n (before nodes channels) u v ⌝ }
 {
-    places::place_in(
-        n,
-        u,
-        v,
-        tables::rows::node(n, u, nodes),
-        tables::rows::channel(n, u, v, channels),
-    )
+    let row = tables::rows::node(n, u, nodes);
+    let cell = tables::rows::channel(n, u, v, channels);
+    if u == v {
+        return places::own_place(n, u, row, cell);
+    }
+    places::view_place(n, v, row) & places::channel_place(n, u, v, row, cell)
 }
 
 // The first pair at fault, u ascending, then v ascending; the search stops there, out of both walks.

@@ -1,5 +1,5 @@
 // One place of the lent tables: the words that belong to a pair u, v, as a test.
-// `place_in` is a leaf: only our crates call it, with the bounds that `requires` states.
+// These are leaves: only our crates call them, with the bounds that `requires` states.
 ghost use mathlib.Core.Path.{_≡_};
 ghost use Prim.Native.Nat.{_≤_};
 ghost use lib.ListN.{length};
@@ -22,7 +22,7 @@ fn is_member(word: u32, v: u32) -> bool
 }
 
 // The place u u.
-fn own_place(n: u32, u: u32, row: &[u32], cell: &[u32]) -> bool
+pub fn own_place(n: u32, u: u32, row: &[u32], cell: &[u32]) -> bool
     requires { ⌜ (n ≤ 16) × Node n u × (length (now row) ≡ width n) × (length (now cell) ≡ cellWidth) ⌝ }
     ensures { λ r. ⌜ r ≡ ownPlace n u (now (row .entry)) (now (cell .entry)) ⌝ }
 {
@@ -33,7 +33,7 @@ fn own_place(n: u32, u: u32, row: &[u32], cell: &[u32]) -> bool
 }
 
 // The view of v.
-fn view_place(n: u32, v: u32, row: &[u32]) -> bool
+pub fn view_place(n: u32, v: u32, row: &[u32]) -> bool
     requires { ⌜ (n ≤ 16) × Node n v × (length (now row) ≡ width n) ⌝ }
     ensures { λ r. ⌜ r ≡ viewPlace n v (now (row .entry)) ⌝ }
 {
@@ -62,7 +62,7 @@ fn messages_hold(n: u32, u: u32, cell: &[u32], count: usize) -> bool
 }
 
 // Channel u to v, beside u's row.
-fn channel_place(n: u32, u: u32, v: u32, row: &[u32], cell: &[u32]) -> bool
+pub fn channel_place(n: u32, u: u32, v: u32, row: &[u32], cell: &[u32]) -> bool
     requires { ⌜ (n ≤ 16) × Node n v × (length (now row) ≡ width n) × (length (now cell) ≡ cellWidth) ⌝ }
     ensures { λ r. ⌜ r ≡ channelPlace n u v (now (row .entry)) (now (cell .entry)) ⌝ }
 {

@@ -2,7 +2,7 @@
 -- Assumes that the bytes are bytes (below 256).
 use Prim.Native.Nat.{ℕ, suc}
 use native.Mathlib.Omega.{arith}
-use mathlib.Core.List.{List, [], _∷_, map}
+use mathlib.Core.List.{List}
 use mathlib.Core.Path.{_≡_, refl, sym, _∙_}
 use Rattle.bits.specs.Bits.{field, unpacked}
 use Rattle.bits.proofs.Numbers.{Below}
@@ -12,36 +12,32 @@ use Rattle.image.specs.Places.{fieldIn, recordsIn, tablesIn}
 use Rattle.image.specs.Records.{recordsOf}
 use Rattle.image.proofs.ImageBits.{same-image}
 use Rattle.image.proofs.ReadBack.{Agree}
-use Rattle.image.proofs.TablesRecords.{Eights, enil, econs, Shaped, length-words, network-tables, tables-tell, rows-length-is, cells-length}
+use Rattle.image.proofs.TablesRecords.{Shaped, length-words, network-tables, tables-tell, rows-length-is, cells-length}
 use Rattle.image.proofs.Whole.{Accepted, image-written}
 use Rattle.network.specs.Check.{checkOn}
 use Rattle.network.proofs.CheckLaws.{is-sized, check-places}
 use Rattle.network.proofs.SoundLoads.{sound-loads, load-inside}
 use Rattle.network.proofs.SoundTables.{Words, sound-fits as tables-fit}
-use Rattle.protocol.specs.Network.{Message, Network}
+use Rattle.protocol.specs.Network.{Network}
 use Rattle.protocol.proofs.Soundness.{Fits, diagonal}
 use Rattle.protocol.proofs.SoundStep.{sound-fits}
-use Rattle.tables.specs.Cell.{messageWords}
 use Rattle.tables.specs.Fit.{TablesFit}
 use Rattle.tables.specs.Load.{load}
 use Rattle.tables.specs.Tables.{Tables, Sized}
-use Rattle.tables.proofs.Back.{words-length, message-length}
+use Rattle.tables.proofs.Back.{words-length}
 use Rattle.tables.proofs.TablesLaws.{tables-back}
+use Rattle.writing.proofs.WordsLaws.{message-words}
 use Rattle.snapshot.specs.Restore.{restoreOn}
 use Rattle.snapshot.specs.Save.{put, saveChecked, saveOn}
 use Rattle.snapshot.proofs.AcceptedLaws.{HeaderGood, ExaminedGood, restore-good}
 use Rattle.reading.proofs.ShapeLaws.{records-shaped, records-words}
-
-eights : (ms : List Message) → Eights (map messageWords ms)
-eights [] = enil
-eights (m ∷ ms) = econs (message-length m) (eights ms)
 
 -- a network's records
 network-shaped : (n : ℕ) (p : Network) → Fits n p → Shaped n (recordsOf n p)
 unfolding recordsOf
 network-shaped n p fits = record {
   heights = λ i j l m. words-length (p .height (suc i) (suc j));
-  messages = λ i j l m d. eights (p .channel (suc i) (suc j));
+  messages = λ i j l m d. message-words (p .channel (suc i) (suc j));
   few = λ i j l m d. omega (arith, length-words (p .channel (suc i) (suc j)), fits .lengths (suc i) (suc j));
 }
 

@@ -29,7 +29,7 @@ use Rattle.writing.specs.Words.{nodesBits, cellBitsAt, cellsFromBits, ce
 
 -- ---- a cell's words
 
-message-words : (ms : List Message) → Eights (map messageWords ms)
+pub message-words : (ms : List Message) → Eights (map messageWords ms)
 message-words [] = enil
 message-words (m ∷ ms) = econs (message-length m) (message-words ms)
 

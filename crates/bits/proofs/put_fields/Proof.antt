@@ -1,6 +1,6 @@
 -- `bits::put_fields` meets its contract. The invariant (`Holding`): the bits held back and the fields still to come, written at the place, are the whole.
 -- The measure is how many fields are left. Assumes nothing.
-use Prim.Native.Nat.{ℕ, _+_, _-_, _/_, _%_, _≤_, _<_}
+use Prim.Native.Nat.{ℕ, _+_, _-_, _%_, _≤_, _<_}
 use native.Mathlib.Nat.{lt-of-lt-of-le}
 use native.Mathlib.Omega.{arith}
 use mathlib.Core.Logic.{⊎-elim}
@@ -86,14 +86,14 @@ joined-requires-2 c κs =
     let e : 64 - (w - (k + w - 64)) ≡ k = omega (arith, c .before .before .before .before .before .before .before .loop .inv .few, c .before .if1 .left) in
     (omega arith, rw e (c .before .before .before .before .before .before .before .loop .inv .small))
 
-put-word-requires : tie.Need-put-word-requires Inv-loop μ-loop
-put-word-requires c κs =
+put-bytes-requires : tie.Need-put-bytes-requires Inv-loop μ-loop
+put-bytes-requires c κs =
     let s = c .before .before .before .before .before .before .before .before .before .before .before .before in
     let l = c .before .before .before .before .before .before .before .before .loop in
     let more = c .before .before .before .before .before .before .before .loop-test .taken in
     let w = c .before .before .before .before .before .wide .ensures in
     let r = holding-room (l .inv) (s .pre .1) (s .pre .0) more w (c .before .before .before .long .ensures) in
-    omega (arith, r, c .before .before .if1 .left, l .inv .same, s .pre .0 .small, s .pre .0 .inside)
+    ((omega arith, omega arith), (omega (arith, r, c .before .before .if1 .left, l .inv .same, s .pre .0 .inside), c .joined2 .ok))
 
 add-place : tie.Need-add-place Inv-loop μ-loop
 add-place c =
@@ -185,7 +185,7 @@ put-fields-spec =
     shr-joined
     sub-joined
     joined-requires-2
-    put-word-requires
+    put-bytes-requires
     add-place
     shl-held
     rem-held

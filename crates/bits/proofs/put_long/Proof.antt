@@ -15,8 +15,8 @@ use Rattle.bits.proofs.put_long.Tie as tie
 cast-low : tie.Need-cast-low
 cast-low c = search needs
 
-put-low-requires : tie.Need-put-low-requires
-put-low-requires c κs = search needs
+put-requires : tie.Need-put-requires
+put-requires c κs = search needs
 
 same-length : tie.Need-same-length
 same-length c = search needs
@@ -24,27 +24,27 @@ same-length c = search needs
 returns : tie.Need-returns
 returns c =
     let a = c .before .before .before .before .before .before .args in
-    c .before .before .put-low .ensures ∙ ap (written (a .buf .now) (a .at)) (bits-low (a .width) 32 (a .value) (omega arith))
+    c .before .before .put .ensures ∙ ap (written (a .buf .now) (a .at)) (bits-low (a .width) 32 (a .value) (omega arith))
 
-sub-put-low : tie.Need-sub-put-low
-sub-put-low c = search needs
+sub-put : tie.Need-sub-put
+sub-put c = search needs
 
-cast-put-low : tie.Need-cast-put-low
-cast-put-low c = search needs
+cast-put : tie.Need-cast-put
+cast-put c = search needs
 
-put-low-requires-2 : tie.Need-put-low-requires-2
-put-low-requires-2 c κs = search needs
+put-requires-2 : tie.Need-put-requires-2
+put-requires-2 c κs = search needs
 
-sub-put-low-2 : tie.Need-sub-put-low-2
-sub-put-low-2 c = search needs
+sub-put-2 : tie.Need-sub-put-2
+sub-put-2 c = search needs
 
-add-put-low : tie.Need-add-put-low
-add-put-low c = search needs
+add-put : tie.Need-add-put
+add-put c = search needs
 
-put-low-requires-3 : tie.Need-put-low-requires-3
-put-low-requires-3 c κs =
+put-requires-3 : tie.Need-put-requires-3
+put-requires-3 c κs =
     let a = c .before .before .before .before .before .before .before .args in
-    omega (arith, ap length (c .before .before .before .put-low2 .ensures) ∙ length-written (a .buf .now) (a .at) (bits (a .width - 32) (a .value / 2 ^ 32)))
+    omega (arith, ap length (c .before .before .before .put2 .ensures) ∙ length-written (a .buf .now) (a .at) (bits (a .width - 32) (a .value / 2 ^ 32)))
 
 same-length-2 : tie.Need-same-length-2
 same-length-2 c = search needs
@@ -52,9 +52,9 @@ same-length-2 c = search needs
 returns-2 : tie.Need-returns-2
 returns-2 c =
     let a = c .before .before .before .before .before .before .before .before .before .before .args in
-    c .before .before .put-low3 .ensures
+    c .before .before .put3 .ensures
     ∙ ap (λ (l : List ℕ). written l (a .at + (a .width - 32)) (bits 32 (a .value % 2 ^ 32)))
-    (c .before .before .before .before .before .before .put-low2 .ensures)
+    (c .before .before .before .before .before .before .put2 .ensures)
     ∙ long-written (a .buf .now) (a .at) (a .width) (a .value) (omega arith) (omega arith)
 
 pub put-long-spec : {M : Type 1} → statement M
@@ -62,14 +62,14 @@ put-long-spec =
     tie.close
     (tie.spec
     cast-low
-    put-low-requires
+    put-requires
     same-length
     returns
-    sub-put-low
-    cast-put-low
-    put-low-requires-2
-    sub-put-low-2
-    add-put-low
-    put-low-requires-3
+    sub-put
+    cast-put
+    put-requires-2
+    sub-put-2
+    add-put
+    put-requires-3
     same-length-2
     returns-2)

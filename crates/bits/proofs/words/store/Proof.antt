@@ -1,9 +1,9 @@
 -- `bits::words::store` meets its contract. The invariant: the bytes written so far stand over the bits at entry.
 -- The measure is how many bytes are left. Assumes nothing.
-use Prim.Native.Nat.{ℕ, _+_, _-_, _*_, _/_, _%_, _^_, _≤_}
+use Prim.Native.Nat.{_+_, _-_, _*_, _/_, _^_, _≤_}
 use native.Mathlib.Omega.{arith}
-use mathlib.Core.Path.{_≡_, refl, ap, _∙_}
-use lib.ListN.{length, getD, length-set}
+use mathlib.Core.Path.{_≡_, refl, _∙_}
+use lib.ListN.{length, length-set}
 use Rattle.bits.specs.Bits.{bits, unpacked, over}
 use Rattle.bits.proofs.Numbers.{Below, below-set}
 use Rattle.bits.proofs.Turns.{put-none, put-all}

@@ -1,16 +1,17 @@
--- `image::records::get_record` meets its contract: the fields are got at the first widths of a message, and the depth is extended.
--- Assumes nothing.
-use Prim.Native.Nat.{ℕ, _^_, _<_}
+-- `image::records::get_record` meets its contract: seven words are got at the widths of a height, the depth is extended, and a message's
+-- stamp is got behind them. Assumes nothing.
+use Prim.Native.Nat.{ℕ, _+_, _^_, _<_}
 use native.Mathlib.Omega.{arith}
-use mathlib.Core.Path.{_≡_, sym, ap, _∙_}
-use mathlib.Core.List.{List}
-use lib.ListN.{length, take, drop, getD, set}
+use mathlib.Core.Path.{_≡_, sym, ap, ap₂, _∙_}
+use mathlib.Core.List.{List, _++_}
+use lib.ListN.{length, take, drop, getD, set, length-take}
+use borrow.Author.Needs.{needs}
 use Rattle.bits.specs.Bits.{unpacked, gathered}
 use Rattle.bits.proofs.Numbers.{below-drop}
 use Rattle.bits.proofs.Bytes.{below-unpacked}
-use Rattle.image.specs.Widths.{widthsOf, recordOf, extendedOf}
+use Rattle.image.specs.Widths.{widthsOf, extendedOf}
 use Rattle.image.proofs.RecordLaws.{length-widths, depth-width, gathered-lt}
-use borrow.Author.Needs.{needs}
+use Rattle.image.proofs.StampLaws.{height-room, stamp-room, seven-got, length-kept, depth-got, height-got, message-got, stamp-field}
 use Rattle.image.proofs.records.get_record.Statement.{statement}
 use Rattle.image.proofs.records.get_record.Tie as tie
 
@@ -21,53 +22,112 @@ array-share-prefix-w : tie.Need-array-share-prefix-w
 array-share-prefix-w c = search needs
 
 slice-aggregate-get-fields : tie.Need-slice-aggregate-get-fields
-slice-aggregate-get-fields c =
-    let a = c .before .before .before .before .args in
-    sym (rw (c .before .widths .ensures) (length-widths (a .depth) (length (a .words .now)) (omega arith)))
+slice-aggregate-get-fields c = search needs
+
+slice-relend-prefix-get-fields : tie.Need-slice-relend-prefix-get-fields
+slice-relend-prefix-get-fields c = search needs
+
+slice-aggregate-get-fields-2 : tie.Need-slice-aggregate-get-fields-2
+slice-aggregate-get-fields-2 c =
+    let e : length (take 7 (c .before .before .before .before .before .args .words .now)) ≡ 7 = simp length-take (omega arith) in
+    sym e
 
 get-fields-requires : tie.Need-get-fields-requires
 get-fields-requires c κs =
     let s = c .before .before .before .before .before in
     let a = s .args in
-    rw (c .before .before .widths .ensures) (s .pre .0, length-widths (a .depth) (length (a .words .now)) (omega arith))
+    let e : length (take 7 (a .words .now)) ≡ 7 = simp length-take (omega arith) in
+    let n = length-widths (a .depth) 7 (omega arith) in
+    rw (c .before .before .widths .ensures)
+    (height-room (a .bytes .now) (a .at) (a .depth) (length (a .words .now)) (s .pre .1 .0 .0) (s .pre .1 .0 .1) (s .pre .0), n ∙ sym e, omega (arith, n))
 
 slice-read-extended : tie.Need-slice-read-extended
 slice-read-extended c = search needs
 
 extended-requires : tie.Need-extended-requires
 extended-requires c κs =
-    let s = c .before .before .before .before .before .before .before .before .before in
+    let b3 = c .before .before .before in
+    let b6 = c .before .before .before .before .before .before in
+    let b9 = c .before .before .before .before .before .before .before .before .before in
+    let s = b9 in
     let a = s .args in
-    let n = length (a .words .now) in
-    let ws = take n (widthsOf (a .depth)) in
     let bs = drop (a .at) (unpacked (a .bytes .now)) in
-    let e : getD ws 3 0 ≡ a .depth = depth-width (a .depth) n (omega arith) in
-    let g : c .before .before .before .get-fields .last .1 .1 .1 .0 ≡ gathered ws bs =
-    c .before .before .before .get-fields .ensures
-    ∙ ap (λ (l : List ℕ). gathered (take n l) bs) (c .before .before .before .before .before .before .widths .ensures) in
+    let ws = take 7 (widthsOf (a .depth)) in
+    let d : getD ws 3 0 ≡ a .depth = depth-width (a .depth) 7 (omega arith) in
+    let r = height-room (a .bytes .now) (a .at) (a .depth) (length (a .words .now)) (s .pre .1 .0 .0) (s .pre .1 .0 .1) (s .pre .0) in
+    let g : b3 .get-fields .last .1 .1 .1 .0 ≡ gathered ws bs = b3 .get-fields .ensures ∙ ap (λ (l : List ℕ). gathered (take 7 l) bs) (b6 .widths .ensures) in
     let q : getD (gathered ws bs) 3 0 < 2 ^ a .depth =
-    rw e at (gathered-lt ws bs (below-drop 2 (a .at) (unpacked (a .bytes .now)) (below-unpacked (a .bytes .now))) 3
-    (omega (arith, length-widths (a .depth) n (omega arith)))) in
-    ((s .pre .1 .1, rw e at (s .pre .0 .narrow 3)), rw g q)
+    rw d at (gathered-lt ws bs (below-drop 2 (a .at) (unpacked (a .bytes .now)) (below-unpacked (a .bytes .now))) 3
+    (omega (arith, length-widths (a .depth) 7 (omega arith)))) in
+    let depth = ap (λ (l : List ℕ). getD (l ++ drop 7 (a .words .now)) 3 0) g ∙ depth-got (a .depth) bs (a .words .now) in
+    ((s .pre .1 .1, omega (arith, r .narrow 3, d)), rw depth q)
 
 slice-write-words : tie.Need-slice-write-words
 slice-write-words c = search needs
+
+add-get : tie.Need-add-get
+add-get c = search needs
+
+add-get-2 : tie.Need-add-get-2
+add-get-2 c = search needs
+
+get-requires : tie.Need-get-requires
+get-requires c κs =
+    let b5 = c .before .before .before .before .before in
+    let b8 = c .before .before .before .before .before .before .before .before in
+    let b11 = c .before .before .before .before .before .before .before .before .before .before .before in
+    let s = b11 in
+    let a = s .args in
+    let bs = drop (a .at) (unpacked (a .bytes .now)) in
+    let g : b5 .get-fields .last .1 .1 .1 .0 ≡ gathered (take 7 (widthsOf (a .depth))) bs =
+    b5 .get-fields .ensures ∙ ap (λ (l : List ℕ). gathered (take 7 l) bs) (b8 .widths .ensures) in
+    let seven = ap length g ∙ seven-got (a .depth) bs in
+    let n = length-kept (b5 .get-fields .last .1 .1 .1 .0) (a .words .now) (c .before .extended .result) seven (s .pre .1 .0 .0) in
+    let r = stamp-room (a .bytes .now) (a .at) (a .depth) (length (a .words .now)) (sym n ∙ c .if1 .taken) (s .pre .0) in
+    (omega arith, (r .0, r .1))
+
+slice-write-words-2 : tie.Need-slice-write-words-2
+slice-write-words-2 c = search needs
 
 same-length : tie.Need-same-length
 same-length c = search needs
 
 returns : tie.Need-returns
-unfolding recordOf
 returns c =
-    let s = c .before .before .before .before .before .before .before .before .before .before in
+    let b2 = c .before .before in
+    let b6 = c .before .before .before .before .before .before in
+    let b9 = c .before .before .before .before .before .before .before .before .before in
+    let b12 = c .before .before .before .before .before .before .before .before .before .before .before .before in
+    let s = b12 in
     let a = s .args in
-    let n = length (a .words .now) in
+    let ws = a .words .now in
     let bs = drop (a .at) (unpacked (a .bytes .now)) in
-    let got = c .before .before .before .before .get-fields in
-    let g : got .last .1 .1 .1 .0 ≡ gathered (take n (widthsOf (a .depth))) bs =
-    got .ensures ∙ ap (λ (l : List ℕ). gathered (take n l) bs) (c .before .before .before .before .before .before .before .widths .ensures) in
-    ap (set (got .last .1 .1 .1 .0) 3) (c .extended .ensures)
-    ∙ ap (λ (l : List ℕ). set l 3 (extendedOf (a .depth) (getD l 3 0))) g
+    let got = b6 .get-fields .last .1 .1 .1 .0 in
+    let g : got ≡ gathered (take 7 (widthsOf (a .depth))) bs = b6 .get-fields .ensures ∙ ap (λ (l : List ℕ). gathered (take 7 l) bs) (b9 .widths .ensures) in
+    let n = length-kept got ws (b2 .extended .result) (ap length g ∙ seven-got (a .depth) bs) (s .pre .1 .0 .0) in
+    let x : b2 .extended .result ≡ extendedOf (a .depth) (getD (gathered (take 7 (widthsOf (a .depth))) bs) 3 0) =
+    b2 .extended .ensures ∙ ap (extendedOf (a .depth)) (ap (λ (l : List ℕ). getD (l ++ drop 7 ws) 3 0) g ∙ depth-got (a .depth) bs ws) in
+    ap₂ (λ (l : List ℕ) (y : ℕ). set (set (l ++ drop 7 ws) 3 y) 7 (c .get .result)) g x
+    ∙ message-got (a .depth) bs ws (c .get .result) (sym n ∙ c .before .if1 .taken) (c .get .ensures ∙ stamp-field (a .bytes .now) (a .at) (a .depth))
+
+same-length-2 : tie.Need-same-length-2
+same-length-2 c = search needs
+
+returns-2 : tie.Need-returns-2
+returns-2 c =
+    let b5 = c .before .before .before .before .before in
+    let b8 = c .before .before .before .before .before .before .before .before in
+    let b11 = c .before .before .before .before .before .before .before .before .before .before .before in
+    let s = b11 in
+    let a = s .args in
+    let ws = a .words .now in
+    let bs = drop (a .at) (unpacked (a .bytes .now)) in
+    let got = b5 .get-fields .last .1 .1 .1 .0 in
+    let g : got ≡ gathered (take 7 (widthsOf (a .depth))) bs = b5 .get-fields .ensures ∙ ap (λ (l : List ℕ). gathered (take 7 l) bs) (b8 .widths .ensures) in
+    let n = length-kept got ws (c .before .extended .result) (ap length g ∙ seven-got (a .depth) bs) (s .pre .1 .0 .0) in
+    let x : c .before .extended .result ≡ extendedOf (a .depth) (getD (gathered (take 7 (widthsOf (a .depth))) bs) 3 0) =
+    c .before .extended .ensures ∙ ap (extendedOf (a .depth)) (ap (λ (l : List ℕ). getD (l ++ drop 7 ws) 3 0) g ∙ depth-got (a .depth) bs ws) in
+    ap₂ (λ (l : List ℕ) (y : ℕ). set (l ++ drop 7 ws) 3 y) g x ∙ height-got (a .depth) bs ws (omega (arith, n, c .if1 .left))
 
 pub get-record-spec : {M : Type 1} → statement M
 get-record-spec =
@@ -76,9 +136,17 @@ get-record-spec =
     widths-requires
     array-share-prefix-w
     slice-aggregate-get-fields
+    slice-relend-prefix-get-fields
+    slice-aggregate-get-fields-2
     get-fields-requires
     slice-read-extended
     extended-requires
     slice-write-words
+    add-get
+    add-get-2
+    get-requires
+    slice-write-words-2
     same-length
-    returns)
+    returns
+    same-length-2
+    returns-2)

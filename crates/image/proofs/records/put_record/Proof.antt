@@ -1,14 +1,15 @@
--- `image::records::put_record` meets its contract: the fields are put at the first widths of a message.
+-- `image::records::put_record` meets its contract: seven words are put at the widths of a height, and a message's stamp behind them.
 -- Assumes nothing.
-use Prim.Native.Nat.{ℕ}
+use Prim.Native.Nat.{ℕ, _+_}
 use native.Mathlib.Omega.{arith}
-use mathlib.Core.Path.{sym, ap, _∙_}
+use mathlib.Core.Path.{_≡_, sym, ap, _∙_}
 use mathlib.Core.List.{List}
-use lib.ListN.{length, take}
-use Rattle.bits.specs.Bits.{written, spread}
-use Rattle.image.specs.Widths.{recordBits}
-use Rattle.image.proofs.RecordLaws.{length-widths}
+use lib.ListN.{length, take, getD, length-take}
 use borrow.Author.Needs.{needs}
+use Rattle.bits.specs.Bits.{written, spread, bits}
+use Rattle.bits.proofs.Bytes.{length-written}
+use Rattle.image.proofs.RecordLaws.{length-widths}
+use Rattle.image.proofs.StampLaws.{height-room, stamp-room, height-put, message-put}
 use Rattle.image.proofs.records.put_record.Statement.{statement}
 use Rattle.image.proofs.records.put_record.Tie as tie
 
@@ -19,26 +20,76 @@ array-share-prefix-w : tie.Need-array-share-prefix-w
 array-share-prefix-w c = search needs
 
 slice-aggregate-put-fields : tie.Need-slice-aggregate-put-fields
-slice-aggregate-put-fields c =
-    let a = c .before .before .before .before .before .args in
-    sym (rw (c .before .before .widths .ensures) (length-widths (a .depth) (length (a .words .now)) (omega arith)))
+slice-aggregate-put-fields c = search needs
+
+slice-aggregate-put-fields-2 : tie.Need-slice-aggregate-put-fields-2
+slice-aggregate-put-fields-2 c =
+    let e : length (take 7 (c .before .before .before .before .before .before .args .words .now)) ≡ 7 = simp length-take (omega arith) in
+    sym e
 
 put-fields-requires : tie.Need-put-fields-requires
 put-fields-requires c κs =
-    let s = c .before .before .before .before .before in
+    let b3 = c .before .before .before in
+    let b6 = c .before .before .before .before .before .before in
+    let s = b6 in
     let a = s .args in
-    rw (c .before .before .widths .ensures) (s .pre .0, length-widths (a .depth) (length (a .words .now)) (omega arith))
+    let e : length (take 7 (a .words .now)) ≡ 7 = simp length-take (omega arith) in
+    rw (b3 .widths .ensures) (
+      height-room (a .buf .now) (a .at) (a .depth) (length (a .words .now)) (s .pre .1 .0) (s .pre .1 .1) (s .pre .0),
+      length-widths (a .depth) 7 (omega arith) ∙ sym e,
+    )
+
+add-put : tie.Need-add-put
+add-put c = search needs
+
+add-put-2 : tie.Need-add-put-2
+add-put-2 c = search needs
+
+shared-slice-read-put : tie.Need-shared-slice-read-put
+shared-slice-read-put c = search needs
+
+put-requires : tie.Need-put-requires
+put-requires c κs =
+    let b2 = c .before .before in
+    let b5 = c .before .before .before .before .before in
+    let b9 = c .before .before .before .before .before .before .before .before .before in
+    let b12 = c .before .before .before .before .before .before .before .before .before .before .before .before in
+    let s = b12 in
+    let a = s .args in
+    let r = stamp-room (a .buf .now) (a .at) (a .depth) (length (a .words .now)) (b2 .if1 .taken) (s .pre .0) in
+    let n = ap length (b5 .put-fields .ensures) ∙ length-written (a .buf .now) (a .at) (spread (take 7 (b9 .widths .result)) (take 7 (a .words .now))) in
+    (omega arith, (r .0, omega (arith, r .1, n)))
 
 same-length : tie.Need-same-length
 same-length c = search needs
 
 returns : tie.Need-returns
-unfolding recordBits
 returns c =
-    let a = c .before .before .before .before .before .before .before .before .args in
-    c .before .before .put-fields .ensures
-    ∙ ap (λ (l : List ℕ). written (a .buf .now) (a .at) (spread (take (length (a .words .now)) l) (a .words .now)))
-    (c .before .before .before .before .before .widths .ensures)
+    let b2 = c .before .before in
+    let b5 = c .before .before .before .before .before in
+    let b8 = c .before .before .before .before .before .before .before .before in
+    let b12 = c .before .before .before .before .before .before .before .before .before .before .before .before in
+    let b15 = c .before .before .before .before .before .before .before .before .before .before .before .before .before .before .before in
+    let s = b15 in
+    let a = s .args in
+    let r = stamp-room (a .buf .now) (a .at) (a .depth) (length (a .words .now)) (b5 .if1 .taken) (s .pre .0) in
+    b2 .put .ensures
+    ∙ ap (λ (l : List ℕ). written l (a .at + (80 + a .depth)) (bits 32 (getD (a .words .now) 7 0)))
+    (b8 .put-fields .ensures ∙ ap (λ (l : List ℕ). written (a .buf .now) (a .at) (spread (take 7 l) (take 7 (a .words .now)))) (b12 .widths .ensures))
+    ∙ message-put (a .buf .now) (a .at) (a .depth) (a .words .now) (b5 .if1 .taken) (r .1)
+
+same-length-2 : tie.Need-same-length-2
+same-length-2 c = search needs
+
+returns-2 : tie.Need-returns-2
+returns-2 c =
+    let b3 = c .before .before .before in
+    let b7 = c .before .before .before .before .before .before .before in
+    let b10 = c .before .before .before .before .before .before .before .before .before .before in
+    let s = b10 in
+    let a = s .args in
+    b3 .put-fields .ensures ∙ ap (λ (l : List ℕ). written (a .buf .now) (a .at) (spread (take 7 l) (take 7 (a .words .now)))) (b7 .widths .ensures)
+    ∙ height-put (a .buf .now) (a .at) (a .depth) (a .words .now) (omega (arith, c .if1 .left))
 
 pub put-record-spec : {M : Type 1} → statement M
 put-record-spec =
@@ -47,6 +98,13 @@ put-record-spec =
     widths-requires
     array-share-prefix-w
     slice-aggregate-put-fields
+    slice-aggregate-put-fields-2
     put-fields-requires
+    add-put
+    add-put-2
+    shared-slice-read-put
+    put-requires
     same-length
-    returns)
+    returns
+    same-length-2
+    returns-2)

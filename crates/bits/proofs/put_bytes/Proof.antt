@@ -1,4 +1,4 @@
--- `bits::put_word` meets its contract: inside a byte, its bits before the place are written where they stand.
+-- `bits::put_bytes` meets its contract: inside a byte, its bits before the place are written where they stand.
 -- Assumes nothing.
 use Prim.Native.Nat.{ℕ, _+_, _-_, _*_, _/_, _%_, _^_, _<_}
 use native.Mathlib.Omega.{arith}
@@ -8,9 +8,9 @@ use lib.ListN.{length, getD}
 use borrow.Author.Needs.{needs}
 use Rattle.bits.specs.Bits.{bits, written}
 use Rattle.bits.proofs.Bytes.{length-written}
-use Rattle.bits.proofs.SixtyFour.{word-written, word-machine, word-fits, byte-high-fits}
-use Rattle.bits.proofs.put_word.Statement.{statement}
-use Rattle.bits.proofs.put_word.Tie as tie
+use Rattle.bits.proofs.SixtyFour.{bytes-written, bytes-machine, bytes-fit, byte-high-fits}
+use Rattle.bits.proofs.put_bytes.Statement.{statement}
+use Rattle.bits.proofs.put_bytes.Tie as tie
 
 store-requires : tie.Need-store-requires
 store-requires c κs = search needs
@@ -22,7 +22,7 @@ returns : tie.Need-returns
 returns c =
     let a = c .before .before .before .before .before .before .args in
     let e : 8 * (a .at / 8) ≡ a .at = omega arith in
-    c .before .before .store .ensures ∙ ap (λ (p : ℕ). written (a .buf .now) p (bits 64 (a .value))) e
+    c .before .before .store .ensures ∙ ap (λ (p : ℕ). written (a .buf .now) p (bits (8 * a .m) (a .value))) e
 
 slice-read-before : tie.Need-slice-read-before
 slice-read-before c = search needs
@@ -41,6 +41,9 @@ cast-before-2 c =
     let a = c .before .before .before .args in
     record { fits = byte-high-fits (getD (a .buf .now) (a .at / 8) 0) (8 - a .at % 8) (c .slice-known3 .given (a .at / 8) .fits) }
 
+mul-store : tie.Need-mul-store
+mul-store c = search needs
+
 sub-store : tie.Need-sub-store
 sub-store c = search needs
 
@@ -54,8 +57,9 @@ add-store : tie.Need-add-store
 add-store c =
     let s = c .before .before .before .before in
     let a = s .args in
-    let h : getD (a .buf .now) (a .at / 8) 0 < 2 ^ 8 = c .before .slice-known3 .given (a .at / 8) .fits in
-    record { fits = word-fits (getD (a .buf .now) (a .at / 8) 0) (a .value) (a .at % 8) (omega arith) (omega arith) h (s .fits .value .fits) }
+    let x = getD (a .buf .now) (a .at / 8) 0 in
+    let h : x < 2 ^ 8 = c .before .slice-known3 .given (a .at / 8) .fits in
+    record { fits = bytes-fit x (a .value) (a .at % 8) (a .m) (omega arith) (omega arith) (omega arith) (omega arith) h (s .pre .1 .1) }
 
 store-requires-2 : tie.Need-store-requires-2
 store-requires-2 c κs = search needs
@@ -69,7 +73,7 @@ cast-put-first c = search needs
 put-first-requires : tie.Need-put-first-requires
 put-first-requires c κs =
     let a = c .before .before .before .before .before .before .before .before .args in
-    omega (arith, ap length (c .before .before .before .store2 .ensures) ∙ length-written (a .buf .now) (8 * (a .at / 8)) (bits 64 _))
+    omega (arith, ap length (c .before .before .before .store2 .ensures) ∙ length-written (a .buf .now) (8 * (a .at / 8)) (bits (8 * a .m) _))
 
 same-length-2 : tie.Need-same-length-2
 same-length-2 c = search needs
@@ -81,15 +85,15 @@ returns-2 c =
     let k = a .at / 8 in
     let o = a .at % 8 in
     let b = c .before .before .before .before .before .before .before .before .slice-known3 .given in
-    let m = word-machine (getD (a .buf .now) k 0) (a .value) o (omega arith) (omega arith) (b k .fits) (s .fits .value .fits) in
-    let p : 8 * (k + 8) ≡ a .at + (64 - o) = omega arith in
+    let e = bytes-machine (getD (a .buf .now) k 0) (a .value) o (a .m) (omega arith) (omega arith) (omega arith) (omega arith) (b k .fits) (s .pre .1 .1) in
+    let p : 8 * (k + a .m) ≡ a .at + (8 * a .m - o) = omega arith in
     c .before .before .put-first .ensures
-    ∙ ap₂ (λ (l : List ℕ) (e : ℕ). written l e (bits o (a .value % 2 ^ 8)))
-    (c .before .before .before .before .before .before .store2 .ensures ∙ ap (λ (x : ℕ). written (a .buf .now) (8 * k) (bits 64 x)) m) p
-    ∙ word-written (a .buf .now) (a .at) (a .value) (λ i. b i .fits) (omega arith) (s .fits .value .fits)
+    ∙ ap₂ (λ (l : List ℕ) (q : ℕ). written l q (bits o (a .value % 2 ^ 8)))
+    (c .before .before .before .before .before .before .store2 .ensures ∙ ap (λ (x : ℕ). written (a .buf .now) (8 * k) (bits (8 * a .m) x)) e) p
+    ∙ bytes-written (a .buf .now) (a .at) (a .m) (a .value) (λ i. b i .fits) (omega arith) (omega arith) (s .pre .1 .1)
 
-pub put-word-spec : {M : Type 1} → statement M
-put-word-spec =
+pub put-bytes-spec : {M : Type 1} → statement M
+put-bytes-spec =
     tie.close
     (tie.spec
     store-requires
@@ -100,6 +104,7 @@ put-word-spec =
     cast-before
     shr-before
     cast-before-2
+    mul-store
     sub-store
     shl-store
     shr-store

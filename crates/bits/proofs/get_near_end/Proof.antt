@@ -1,4 +1,4 @@
--- `bits::get_fields` meets its contract. The invariant: the first k values are read, the others are as they were, and the place is behind them.
+-- `bits::get_near_end` meets its contract. The invariant: the first k values are read, the others are as they were, and the place is behind them.
 -- The measure is how many are left. Assumes nothing.
 use Prim.Native.Nat.{ℕ, _+_, _-_, _≤_, _<_}
 use native.Mathlib.Omega.{arith}
@@ -8,8 +8,8 @@ use lib.ListN.{length, getD, set, take, drop, length-set, drop-of-length-le}
 use lib.Seq.{take-all}
 use Rattle.bits.specs.Bits.{unpacked, gathered, total, field}
 use Rattle.bits.proofs.Fields.{total-in, total-more, get-more}
-use Rattle.bits.proofs.get_fields.Statement.{statement}
-use Rattle.bits.proofs.get_fields.Tie as tie
+use Rattle.bits.proofs.get_near_end.Statement.{statement}
+use Rattle.bits.proofs.get_near_end.Tie as tie
 
 abbrev Inv-loop : tie.InvT-loop
 Inv-loop bytes at widths values₀ place₀ k₀ values place k =
@@ -100,8 +100,8 @@ returns c =
     ∙ ap₂ (λ (x y : List ℕ). gathered x bs ++ y) (take-all (l .k) (a .widths .now) (omega arith)) (drop-of-length-le (a .values .now) z)
     ∙ append-nil (gathered (a .widths .now) bs)
 
-pub get-fields-spec : {M : Type 1} → statement M
-get-fields-spec =
+pub get-near-end-spec : {M : Type 1} → statement M
+get-near-end-spec =
     tie.close
     (tie.spec
     Inv-loop
