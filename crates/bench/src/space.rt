@@ -1,4 +1,5 @@
 // Room for an input, one byte more than the longest, to tell a longer one; and room for every listing.
+// Assumes what the programs assume: the contracts of the C functions (docs/TRUST.md, 5).
 ghost use mathlib.Core.Path.{_≡_};
 ghost use lib.ListN.{length};
 use bench_run::Ran;

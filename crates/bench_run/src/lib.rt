@@ -1,4 +1,5 @@
 // The bench: from the bytes of an input to the bytes of its listing (document 01, "The bench program").
+// No function requires anything: what cannot be done is refused, and nothing lent changes.
 ghost use mathlib.Core.Path.{_≡_};
 ghost use Rattle.bench_run.specs.Run.{saidRun, ran, runOn};
 

@@ -1,4 +1,5 @@
 // The station lines.
+// Assumes the bounds that each `requires` states.
 ghost use mathlib.Core.List.{[]};
 ghost use mathlib.Core.Path.{_≡_};
 ghost use Prim.Native.Nat.{_+_, _*_, _^_, _≤_, _<_};

@@ -6,5 +6,5 @@ pub mod Bytes
 pub mod Turns
 pub mod SixtyFour
 pub mod Fields
-pub mod Holding
 pub mod Seeing
+pub mod Packing

@@ -1,9 +1,10 @@
-// Fields of 0 to 32 bits at any bit place of bytes, most significant bit first, byte by byte.
+// Fields of 0 to 32 bits at any bit place of bytes, most significant bit first: through 64 bits at a time, byte by byte near the end.
 // These are leaves: only our crates call them, with the bounds that `requires` states.
 ghost use mathlib.Core.Path.{_≡_};
-ghost use Prim.Native.Nat.{_+_, _*_, _/_, _%_, _^_, _≤_, _<_};
-ghost use lib.ListN.{length, take, drop};
-ghost use Rattle.bits.specs.Bits.{bits, unpacked, over, field, written, spread, gathered, RoomFor};
+ghost use mathlib.Core.List.{_++_};
+ghost use Prim.Native.Nat.{ℕ, _+_, _*_, _/_, _%_, _^_, _≤_, _<_};
+ghost use lib.ListN.{length, take, drop, getD};
+ghost use Rattle.bits.specs.Bits.{bits, unpacked, over, field, written, total, spread, gathered, wordBits, RoomFor};
 
 mod words;
 
@@ -144,14 +145,23 @@ fn put_long(buf: &mut [u8], at: usize, width: usize, value: u64)
     put(buf, at + (width - 32), 32, low);
 }
 
-// Values go to fields end to end from a bit place on, each at its width. Bits are held back until there are 64.
-pub fn put_fields(buf: &mut [u8], at: usize, widths: &[u8], values: &[u32])
-    requires { ⌜ RoomFor (now buf) at (now widths) × (length (now widths) ≡ length (now values)) ⌝ }
-    ensures { λ _. ⌜ now (buf .exit) ≡ written (now (buf .entry)) at (spread (now (widths .entry)) (now (values .entry))) ⌝ }
+// Fields packed: so many whole numbers of 64 bits, and then `count` bits, held.
+struct Packed {
+    full: usize,
+    count: usize,
+    held: u64,
+}
+
+// The bits of values, each at its width, as numbers of 64 bits.
+fn pack(widths: &[u8], values: &[u32], full: &mut [u64]) -> Packed
+    requires { ⌜ ((i : ℕ) → getD (now widths) i 0 ≤ 32) × (length (now widths) ≡ length (now values))
+        × (length (now widths) ≤ 8) × (length (now full) ≡ 4) ⌝ }
+    ensures { λ p. ⌜ (spread (now (widths .entry)) (now (values .entry)) ≡ wordBits (p .full) (now (full .exit)) ++ bits (p .count) (p .held))
+        × (64 * p .full + p .count ≡ total (now (widths .entry))) × (p .full ≤ 4) × (p .count < 64) ⌝ }
 {
-    let mut place = at;
     let mut held: u64 = 0;
     let mut count: usize = 0;
+    let mut j: usize = 0;
     let mut k: usize = 0;
     while k < widths.len() {
         let w = wide(widths[k]);
@@ -161,14 +171,48 @@ pub fn put_fields(buf: &mut [u8], at: usize, widths: &[u8], values: &[u32])
             count += w;
         } else {
             let rest = count + w - 64;
-            put_bytes(buf, place, 8, words::joined(held, v >> rest, w - rest));
-            place += 64;
+            full[j] = words::joined(held, v >> rest, w - rest);
+            j += 1;
             held = v % (1u64 << rest);
             count = rest;
         }
         k += 1;
     }
-    put_long(buf, place, count, held);
+    Packed {
+        full: j,
+        count,
+        held,
+    }
+}
+
+// n numbers of 64 bits and then `count` bits, held, go to a bit place.
+fn put_packed(buf: &mut [u8], at: usize, full: &[u64], n: usize, count: usize, held: u64)
+    requires { ⌜ (n ≤ length (now full)) × (n ≤ 4) × (count < 64)
+        × (at + (64 * n + count) < 2 ^ 32) × (at + (64 * n + count) ≤ 8 * length (now buf)) ⌝ }
+    ensures { λ _. ⌜ now (buf .exit) ≡ written (now (buf .entry)) at (wordBits n (now (full .entry)) ++ bits count held) ⌝ }
+{
+    let mut j: usize = 0;
+    while j < n {
+        put_bytes(buf, at + 64 * j, 8, full[j]);
+        j += 1;
+    }
+    put_long(buf, at + 64 * n, count, held);
+}
+
+fn no_words() -> [u64; 4]
+    ensures { λ r. ⌜ length r ≡ 4 ⌝ }
+{
+    [0; 4]
+}
+
+// Values go to fields end to end from a bit place on, each at its width.
+pub fn put_fields(buf: &mut [u8], at: usize, widths: &[u8], values: &[u32])
+    requires { ⌜ RoomFor (now buf) at (now widths) × (length (now widths) ≡ length (now values)) × (length (now widths) ≤ 8) ⌝ }
+    ensures { λ _. ⌜ now (buf .exit) ≡ written (now (buf .entry)) at (spread (now (widths .entry)) (now (values .entry))) ⌝ }
+{
+    let mut full = no_words();
+    let p = pack(widths, values, &mut full);
+    put_packed(buf, at, &full, p.full, p.count, p.held);
 }
 
 // The values of the fields that stand end to end from a bit place on.

@@ -12,7 +12,7 @@ pub struct Advanced {
     pub moved: Moved,
 }
 
-// The same by value: the moved clock, or the old one beside the refusal at its end.
+// By value: the moved clock, or the old one beside the refusal at its end.
 pub fn advance_value(clock: Time, stamp: Time) -> Advanced
     ensures { λ r. ⌜ advancing (saidMoved (r .moved)) (r .clock) ≡ advanceOn clock stamp ⌝ }
 {

@@ -1,2 +1,3 @@
 -- Commands of a bench input.
+-- Assumes nothing: these are definitions.
 pub mod Commands

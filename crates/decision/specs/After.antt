@@ -1,4 +1,5 @@
 -- A node's heights while an event is decided, and its height after a rule: the new one, or refusal 8.
+-- Assumes nothing: these are definitions.
 use Prim.Native.Nat.{ℕ}
 use mathlib.Core.Bool.{Bool, cond, _||_}
 use mathlib.Core.List.{List}

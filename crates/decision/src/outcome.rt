@@ -1,4 +1,5 @@
 // What a rule does: the height it leaves, and the set it sends to.
+// Assumes the bounds that each `requires` states.
 ghost use mathlib.Core.Path.{_≡_};
 ghost use mathlib.Core.Bool.{true, false};
 ghost use Prim.Native.Nat.{_≤_};

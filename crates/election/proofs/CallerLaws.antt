@@ -1,5 +1,5 @@
--- What callers rely on, for any tables: a refused call changes no word, and an event stays within its own node's record.
--- Assumes that every word is one of 32 bits (`Words`), which a slice of u32 words shows of itself.
+-- For any tables of 32-bit words (`Words`, which a slice shows of itself): a refused call changes no word, and an event only
+-- its node's row, the channels from it and the one received from. Assumes nothing else.
 use Prim.Native.Nat.{ℕ, zero, suc, _≤_}
 use native.Mathlib.Omega.{arith}
 use mathlib.Core.Bool.{Bool, true, false, cond}

@@ -1,5 +1,5 @@
 -- Lists of event calls from `fresh`, each call with its own n: the tables say and hold what the meaning says and holds,
--- so what `protocol` proves of grown networks holds for tables. Assumes nothing.
+-- so what `protocol` proves of grown networks holds for tables. Assumes 1 to 16 nodes.
 use Prim.Native.Nat.{ℕ, zero, suc, _+_, _-_, _*_, _<_, _≤_}
 use native.Mathlib.Omega.{arith}
 use mathlib.Core.Bool.{Bool, true, false, cond, _&&_, and-false}

@@ -1,4 +1,5 @@
 -- The channels' cells before and after an event sends. For the proof: the meaning is `cleared` and `commit` of protocol.
+-- Assumes nothing: these are definitions.
 use Prim.Native.Nat.{ℕ, _*_, _≤_}
 use mathlib.Core.Bool.{Bool, false, not, cond, _&&_, _||_}
 use mathlib.Core.List.{List}
@@ -28,7 +29,7 @@ Takes Raised n u v cs = Unit {0}
 Takes Dropped n u v cs = Unit {0}
 Takes Received n u v cs = 1 ≤ count (channelOf n v u cs)
 
--- a down sends nothing to v
+-- the set that a down sends to does not hold v
 abbrev pub Silenced : Kind → ℕ → ℕ → Type 0
 Silenced Raised to v = Unit {0}
 Silenced Dropped to v = member to v ≡ false

@@ -1,4 +1,5 @@
 -- The end of an event, after its rule is chosen: 8, 9, or carried out. For the proof; the order is that of protocol's `returned`.
+-- Assumes nothing: these are definitions.
 use Prim.Native.Nat.{ℕ, _<_, _^_, _≤_}
 use mathlib.Core.Bool.{Bool, true, false, not, cond, _&&_, _||_}
 use mathlib.Core.Path.{_≡_}
@@ -44,7 +45,7 @@ pub record Between (n : ℕ) (t : Tables) (u v : ℕ) : Type 0 where
   pub other : Node n v
   pub differ : u ≡ v → ⊥
 
--- a down sends nothing to v
+-- the rule of a down does not send to v
 abbrev pub Silent : Kind → ℕ → ℕ → ℕ → Rule → Type 0
 Silent Raised v N F rule = Unit {0}
 Silent Dropped v N F rule = sendsTo v rule N F v ≡ false
@@ -62,11 +63,12 @@ pub record Chosen (kind : Kind) (n : ℕ) (t : Tables) (u v N F : ℕ) (rule : R
 unfoldable pub named : ℕ → ℕ → ℕ → Bool
 named n u v = leb 1 u && leb u n && leb 1 v && leb v n && not (eqb u v)
 
--- a message waits at u from v, who is in neither set of u; in one of them
+-- a message waits at u from v, who is in neither set of u
 pub record Ignores (n : ℕ) (t : Tables) (u v : ℕ) : Type 0 where
   pub waits : 1 ≤ count (channelOf n v u (t .channels))
   pub unknown : (neighborsAt n t u v || formingAt n t u v) ≡ false
 
+-- a message waits at u from v, who is in one of them
 pub record Hears (n : ℕ) (t : Tables) (u v : ℕ) : Type 0 where
   pub waits : 1 ≤ count (channelOf n v u (t .channels))
   pub known : (neighborsAt n t u v || formingAt n t u v) ≡ true

@@ -1,4 +1,5 @@
 -- What writing an event needs, and what the tables are after it: u's row and the cells. For the proof.
+-- Assumes nothing: these are definitions.
 use Prim.Native.Nat.{ℕ, _<_, _^_}
 use mathlib.Core.Bool.{Bool, true}
 use mathlib.Core.List.{List}

@@ -1,4 +1,5 @@
 // The events on tables that passed the check: node numbers (3), the channel (4, 5, 6), the clock (7), then the rule and its end.
+// Assumes the bounds that each `requires` states.
 ghost use mathlib.Core.Path.{_≡_};
 ghost use mathlib.Core.Bool.{_||_};
 ghost use Prim.Native.Nat.{_≤_, _<_};

@@ -1,4 +1,5 @@
 // The end of every event, after its rule is chosen: the depth (8), room (9), then everything is written at once.
+// Assumes the bounds that each `requires` states.
 ghost use mathlib.Core.Path.{_≡_};
 ghost use Rattle.decision.specs.After.{AdoptsNode};
 ghost use Rattle.height.specs.Words.{Negated};

@@ -1,4 +1,5 @@
 // Channels: room for a set, what an event clears, and a height sent to every node of a set.
+// Assumes the bounds that each `requires` states.
 ghost use mathlib.Core.Path.{_≡_};
 ghost use mathlib.Core.Bool.{true};
 ghost use Prim.Native.Nat.{_*_, _≤_, _<_, _^_};

@@ -1,5 +1,5 @@
 -- The clock: document 01, "The clock", and refusal 7.
--- `saidMoved` gives the paper's number and value for each case of the answer.
+-- `saidMoved` gives document 01's number and value for each case of the answer.
 use Prim.Native.Nat.{ℕ, suc, max}
 use mathlib.Core.Bool.{Bool, true, false, cond}
 use lib.Dec.{ltb}

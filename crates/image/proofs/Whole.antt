@@ -148,9 +148,9 @@ module _ (version h d n : ℕ) (one : 1 ≤ d) (wide : d ≤ 32) (head : 21 ≤ 
       w ∙ sym s
 
   -- THEOREM: it is the image of the records that are read from it
-  pub image-written : (xs : List ℕ) → Accepted version h d n xs → xs ≡ imageOf version h d n (recordsIn h d n (unpacked xs))
+  pub image-of-read : (xs : List ℕ) → Accepted version h d n xs → xs ≡ imageOf version h d n (recordsIn h d n (unpacked xs))
   unfolding imageOf bytesOf padded
-  image-written xs a =
+  image-of-read xs a =
       let u : List ℕ = unpacked xs in
       let r : Records = recordsIn h d n u in
       let l : List ℕ = wholeBits version h d n r in

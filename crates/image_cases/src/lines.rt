@@ -1,4 +1,5 @@
 // One line for each answer.
+// Assumes what the programs assume: the contracts of the C functions (docs/TRUST.md, 5).
 use snapshot::NodeRead;
 use snapshot::Restored;
 use snapshot::Saved;

@@ -1,4 +1,5 @@
 -- The fresh network in lent tables, whatever they held before: answers 0, or 1 and leaves them as they were.
+-- Assumes nothing: these are definitions.
 use Prim.Native.Nat.{ℕ}
 use mathlib.Core.Bool.{Bool, cond}
 use Rattle.protocol.specs.Network.{fresh}

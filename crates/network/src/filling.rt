@@ -1,4 +1,5 @@
 // The fresh network written into tables of the right sizes.
+// Assumes the bounds that each `requires` states.
 ghost use mathlib.Core.Path.{_≡_};
 ghost use Rattle.height.specs.Words.{Negated};
 ghost use Rattle.protocol.specs.Network.{fresh, freshHeight};

@@ -1,4 +1,5 @@
 // The soundness check: every place of the tables, and the first that is at fault.
+// Assumes the bounds that each `requires` states.
 ghost use mathlib.Core.Path.{_≡_};
 ghost use Rattle.protocol.specs.Component.{Node};
 ghost use Rattle.tables.specs.Tables.{given, before, Sized};

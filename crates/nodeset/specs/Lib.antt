@@ -1,2 +1,3 @@
 -- Definitions that the contracts of `nodeset` cite.
+-- Assumes nothing: these are definitions.
 pub mod NodeSet

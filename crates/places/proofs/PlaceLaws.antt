@@ -66,9 +66,9 @@ module _ (n u : ℕ) (cell : List ℕ) (size : ℕ) where
 -- ---- a channel
 
 module _ (n u v : ℕ) (row cell : List ℕ) where
-  pub channel-full : (k : ℕ) → k ≡ count cell → 8 < k → false ≡ channelPlace n u v row cell
+  pub channel-over : (k : ℕ) → k ≡ count cell → 8 < k → false ≡ channelPlace n u v row cell
   unfolding channelPlace
-  channel-full k e l = rw (← e, lt-leb k 8 l)
+  channel-over k e l = rw (← e, lt-leb k 8 l)
 
   pub channel-test : (k : ℕ) → k ≡ count cell → k ≤ 8
       → ((member (neighborsIn row) v || member (formingIn row) v || eqb k 0) && all (messageHolds n u) (messagesAt k cell 1)

@@ -1,4 +1,5 @@
 // The rules of a height as tests (document 01, "What a station holds").
+// Assumes the bounds that each `requires` states.
 ghost use mathlib.Core.Path.{_≡_};
 ghost use mathlib.Core.Bool.{_&&_};
 ghost use Prim.Native.Nat.{_≤_};

@@ -1,5 +1,5 @@
--- Document 01's marked cases a to i, one table, proved by computing it: each start network is sound with its times within its clocks,
--- and rules, sets sent to, clocks and own heights come out as the table says. Assumes nothing.
+-- Document 01's marked cases a to i, one table, and the rows of `readings`, proved by computing them: each start network is sound
+-- with its times within its clocks, and rules, sets sent to, clocks and own heights come out as the tables say. Assumes nothing.
 use mathlib.Core.Path.{_≡_, refl}
 use Rattle.height.specs.Height.{levelKey, pairKey, heightKey}
 use Rattle.height.specs.Order.{before, same}

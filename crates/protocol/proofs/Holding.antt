@@ -1,5 +1,5 @@
 -- A network passes every test of Holds.antt (`sound-holds`) and of Times.antt (`timely-holds`).
--- Assumes for the first that it is sound, by facts (Soundness.antt), for the second that it keeps the invariant.
+-- Assumes that it is sound, by facts (Soundness.antt), and for the second also that it keeps the invariant.
 use Prim.Native.Nat.{ℕ}
 use mathlib.Core.Bool.{true, not, cond, _&&_, _||_, and-false}
 use mathlib.Core.List.{List, [], _∷_}

@@ -1,5 +1,5 @@
 -- The plots worked by hand: document 01's marked cases a to i as one table, with exactly its numbers.
--- Each row: n, the start network, the events, and what must come of them. proofs/Cases.antt computes the whole table.
+-- Each row: n, the start network, the events, and what must come of them. At the end `readings`: more rows, for other wrong readings.
 use Prim.Native.Nat.{ℕ}
 use mathlib.Core.Bool.{Bool, true, false, _||_}
 use mathlib.Core.List.{List, [], _∷_, _++_}

@@ -31,7 +31,7 @@ pub record Linked (n : ℕ) (ups : ℕ → ℕ → Bool) (u v : ℕ) : Type 0 wh
   pub forth : ups u v ≡ true
   pub back : ups v u ≡ true
 
--- of one group (component): joined by links; a node without links is alone
+-- u and w are of one group (a largest set joined by links; here component); a node without links is alone
 pub data Joined (n : ℕ) (ups : ℕ → ℕ → Bool) : ℕ → ℕ → Type 0 where
   alone : {u : ℕ} → Joined n ups u u
   link : {u v w : ℕ} → Linked n ups u v → Joined n ups v w → Joined n ups u w

@@ -1,4 +1,5 @@
--- Document 01 as definitions, in the order of its sections. Start with Network, then read on in this order.
+-- Document 01 as definitions, in the order of its sections, after Functions (two tests, and a change at one place). Start with Network.
+-- Assumes nothing: these are definitions.
 pub mod Functions
 pub mod Network
 pub mod Holds

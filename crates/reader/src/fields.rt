@@ -1,5 +1,5 @@
 // Fields at a bit place of an image's bytes, of any length: the work of `take` and `skip`.
-// Assumes the bounds that each `requires` states.
+// Every function but `field_at` takes anything.
 ghost use mathlib.Core.Path.{_≡_};
 ghost use Prim.Native.Nat.{_+_, _*_, _≤_};
 ghost use lib.ListN.{length};

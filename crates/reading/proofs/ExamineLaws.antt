@@ -32,9 +32,9 @@ module _ (h d n : ℕ) (l : List ℕ) {w : Walk} (walks : w ≡ walk h d n l) wh
     unfolding examined
     after = ap (afterWalk h d n l) (sym on ∙ walks)
 
-    pub examined-long : endsAt l q ≡ false → checked 12 0 0 ≡ examined h d n l
+    pub examined-bad-end : endsAt l q ≡ false → checked 12 0 0 ≡ examined h d n l
     unfolding afterWalk
-    examined-long b = rw b at after
+    examined-bad-end b = rw b at after
 
     pub examined-contents : endsAt l q ≡ true → {x : SaidCheck} → x ≡ firstFault n (tablesIn h d n l) → x ≡ examined h d n l
     unfolding afterWalk

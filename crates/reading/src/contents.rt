@@ -1,4 +1,5 @@
 // The contents: every place of the tables that the records make, tested record by record as the lent tables are.
+// Assumes the bounds that each `requires` states.
 ghost use mathlib.Core.Path.{_≡_};
 ghost use Prim.Native.Nat.{_≤_, _<_};
 ghost use lib.ListN.{length};

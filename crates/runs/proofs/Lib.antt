@@ -1,4 +1,5 @@
 -- Demand 3 and what it rests on.
+-- Assumes nothing of its own: each module says what it assumes.
 pub mod ImageBack
 pub mod Demand3
 pub mod TablesRun

@@ -1,4 +1,5 @@
 -- Laws of saving and restoring.
+-- Assumes nothing of its own: each module says what it assumes.
 pub mod ImageLaws
 pub mod RestoreSaved
 pub mod AcceptedLaws

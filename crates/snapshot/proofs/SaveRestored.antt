@@ -13,7 +13,7 @@ use Rattle.image.specs.Records.{recordsOf}
 use Rattle.image.proofs.ImageBits.{same-image}
 use Rattle.image.proofs.ReadBack.{Agree}
 use Rattle.image.proofs.TablesRecords.{Shaped, length-words, network-tables, tables-tell, rows-length-is, cells-length}
-use Rattle.image.proofs.Whole.{Accepted, image-written}
+use Rattle.image.proofs.Whole.{Accepted, image-of-read}
 use Rattle.network.specs.Check.{checkOn}
 use Rattle.network.proofs.CheckLaws.{is-sized, check-places}
 use Rattle.network.proofs.SoundLoads.{sound-loads, load-inside}
@@ -99,7 +99,7 @@ module _ (xs : List ℕ) (bytes : Below 256 xs) (head : HeaderGood xs) (good : E
   unfolding image p
   image-again =
       same-image (field xs 16 5) (recordsOf (field xs 16 5) p) (recordsIn 32 16 (field xs 16 5) (unpacked xs)) agree 16 1 32
-      ∙ sym (image-written 1 32 16 (field xs 16 5) (omega arith) (omega arith) (omega arith) xs accepted)
+      ∙ sym (image-of-read 1 32 16 (field xs 16 5) (omega arith) (omega arith) (omega arith) xs accepted)
 
 pub save-restored : (xs : List ℕ) → Below 256 xs → (t : Tables) → restoreOn xs t .said .number ≡ 0
     → (out : List ℕ) → saveOn (field xs 16 5) (restoreOn xs t .after) out ≡ put xs out

@@ -1,4 +1,5 @@
-// Images of networks: save, restore, and one node at a saved place. Every call answers or refuses; a refusal changes nothing lent.
+// Images of networks: save, restore, and one node at a saved place.
+// Every call answers or refuses; a refusal changes nothing lent.
 ghost use mathlib.Core.Path.{_≡_};
 ghost use Rattle.network.specs.Fresh.{filled};
 ghost use Rattle.snapshot.specs.ReadNode.{saidNode, looked, readNodeOn};

@@ -1,4 +1,5 @@
 // A save of tables in which the check found no fault.
+// Assumes the bounds that each `requires` states.
 ghost use mathlib.Core.Path.{_≡_};
 ghost use Rattle.image.specs.Image.{image};
 ghost use Rattle.network.specs.Check.{checkOn};

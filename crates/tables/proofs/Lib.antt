@@ -1,4 +1,5 @@
 -- Laws of the lent tables.
+-- Assumes nothing of its own: each module says what it assumes.
 pub mod RowsLaws
 pub mod RowsMore
 pub mod WordRuns

@@ -1,4 +1,5 @@
 -- A channel's cell: the count, then eight places of a height and its timestamp, oldest first; unused places are zero.
+-- Assumes nothing: these are definitions.
 use Prim.Native.Nat.{ℕ, zero, suc, _+_, _-_, _*_}
 use mathlib.Core.Bool.{Bool, true, _&&_}
 use mathlib.Core.List.{List, [], _∷_, _++_}

@@ -1,4 +1,5 @@
 -- A node's row: clock, linked set N, forming set F, then the heights of nodes 1 to n, its own and its views.
+-- Assumes nothing: these are definitions.
 use Prim.Native.Nat.{ℕ, zero, suc, _+_, _*_}
 use mathlib.Core.Bool.{Bool}
 use mathlib.Core.List.{List, _∷_}

@@ -1,5 +1,5 @@
 // A channel's cell, and the operations on it: count, nth message, append, take the first, clear, zero after the messages.
-// Nothing else touches cells, so that a shared store of messages replaces these alone.
+// Beside these only image/src/cells.rt (records) touches a cell's words. Each function assumes what its `requires` states.
 ghost use mathlib.Core.Path.{_≡_};
 ghost use Prim.Native.Nat.{_+_, _*_, _≤_, _<_};
 ghost use lib.ListN.{length, replicate, drop};

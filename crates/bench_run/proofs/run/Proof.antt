@@ -5,27 +5,21 @@ use borrow.Author.Needs.{needs}
 use Rattle.bench_run.proofs.run.Statement.{statement}
 use Rattle.bench_run.proofs.run.Tie as tie
 
--- src/lib.rt:21:34
 slice-aggregate-list : tie.Need-slice-aggregate-list
 slice-aggregate-list c = search needs
 
--- src/lib.rt:21:9
 list-requires : tie.Need-list-requires
 list-requires c κs = search needs
 
--- src/lib.rt:23:9
 returns : tie.Need-returns
 returns c = run-no-room _ _ (c .before .before .list .ensures .1) (c .if1 .taken)
 
--- src/lib.rt:25:5
 list-requires-2 : tie.Need-list-requires-2
 list-requires-2 c κs = search needs
 
--- src/lib.rt:17:1
 same-length : tie.Need-same-length
 same-length c = search needs
 
--- src/lib.rt:17:1
 returns-2 : tie.Need-returns-2
 returns-2 c =
     run-room _ _ _ (c .before .before .before .before .before .before .list .ensures .1) (c .before .before .before .before .if1 .left)

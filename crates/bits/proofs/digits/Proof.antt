@@ -9,27 +9,21 @@ use borrow.Author.Needs.{needs}
 use Rattle.bits.proofs.digits.Statement.{statement}
 use Rattle.bits.proofs.digits.Tie as tie
 
--- src/lib.rt:46:11
 cast-result : tie.Need-cast-result
 cast-result c = search needs
 
--- src/lib.rt:46:6
 shr-result : tie.Need-shr-result
 shr-result c = search needs
 
--- src/lib.rt:46:25
 cast-result-2 : tie.Need-cast-result-2
 cast-result-2 c = search needs
 
--- src/lib.rt:46:17
 shl-result : tie.Need-shl-result
 shl-result c = search needs
 
--- src/lib.rt:46:5
 rem-result : tie.Need-rem-result
 rem-result c = rw (one-shl (c .args .n) 32 (omega arith)) (pow-pos (c .args .n))
 
--- src/lib.rt:42:1
 returns : tie.Need-returns
 returns c = ap (λ (x : ℕ). c .args .v / 2 ^ c .args .r % x) (one-shl (c .args .n) 32 (omega arith))
 

@@ -14,39 +14,30 @@ Inv-loop bytes at width v₀ done₀ v done = (done ≤ width) × (v ≡ field b
 abbrev μ-loop : tie.MeasureT-loop
 μ-loop bytes at width v₀ done₀ v done = width - done
 
--- src/lib.rt:30:5
 loop-holds : tie.Need-loop-holds Inv-loop μ-loop
 loop-holds c = (omega arith, sym (field-none (c .before .args .bytes .now) (c .before .args .at)))
 
--- src/lib.rt:31:21
 add-place : tie.Need-add-place Inv-loop μ-loop
 add-place c = omega arith
 
--- src/lib.rt:32:28
 sub-run : tie.Need-sub-run Inv-loop μ-loop
 sub-run c = omega arith
 
--- src/lib.rt:32:13
 run-requires : tie.Need-run-requires Inv-loop μ-loop
 run-requires c κs = omega arith
 
--- src/lib.rt:34:24
 shared-slice-read-digits : tie.Need-shared-slice-read-digits Inv-loop μ-loop
 shared-slice-read-digits c = omega arith
 
--- src/lib.rt:34:24
 cast-digits : tie.Need-cast-digits Inv-loop μ-loop
 cast-digits c = omega (arith, c .shared-slice-known2 .given ((c .before .before .before .before .before .args .at + c .before .before .before .loop .done) / 8))
 
--- src/lib.rt:34:44
 sub-digits : tie.Need-sub-digits Inv-loop μ-loop
 sub-digits c = omega arith
 
--- src/lib.rt:34:44
 sub-digits-2 : tie.Need-sub-digits-2 Inv-loop μ-loop
 sub-digits-2 c = omega arith
 
--- src/lib.rt:34:13
 digits-requires : tie.Need-digits-requires Inv-loop μ-loop
 digits-requires c κs = omega arith
 
@@ -61,15 +52,12 @@ more c =
     get-turn (a .bytes .now) (a .at) (l .done) (c .before .before .run .result) (l .v) (c .digits .result)
     (omega arith) (omega arith) (omega arith) (omega arith) (l .inv .1) (c .digits .ensures)
 
--- src/lib.rt:35:19
 cast-v : tie.Need-cast-v Inv-loop μ-loop
 cast-v c = omega arith
 
--- src/lib.rt:35:14
 shl-v : tie.Need-shl-v Inv-loop μ-loop
 shl-v c = omega arith
 
--- src/lib.rt:35:13
 add-v : tie.Need-add-v Inv-loop μ-loop
 add-v c =
     let a = c .before .before .before .before .before .before .args in
@@ -77,19 +65,15 @@ add-v c =
     let n = c .before .before .run .result in
     record { fits = rw (more c) (field-fits (a .bytes .now) (a .at) (done + n) (omega arith) (omega arith)) }
 
--- src/lib.rt:36:9
 add-done : tie.Need-add-done Inv-loop μ-loop
 add-done c = omega arith
 
--- src/lib.rt:30:5
 loop-less : tie.Need-loop-less Inv-loop μ-loop
 loop-less c = omega arith
 
--- src/lib.rt:30:5
 loop-again : tie.Need-loop-again Inv-loop μ-loop
 loop-again c = (omega arith, more c)
 
--- src/lib.rt:24:1
 returns : tie.Need-returns Inv-loop μ-loop
 returns c = c .before .loop .inv .1 ∙ ap (field (c .before .before .before .args .bytes .now) (c .before .before .before .args .at)) (omega arith)
 

@@ -20,20 +20,16 @@ Inv-loop bytes at widths values₀ place₀ k₀ values place k =
 abbrev μ-loop : tie.MeasureT-loop
 μ-loop bytes at widths values₀ place₀ k₀ values place k = length widths - k
 
--- src/lib.rt:97:5
 loop-holds : tie.Need-loop-holds Inv-loop μ-loop
 unfolding total gathered
 loop-holds c = (omega arith, (omega arith, (refl, refl)))
 
--- src/lib.rt:98:22
 shared-slice-read-wide : tie.Need-shared-slice-read-wide Inv-loop μ-loop
 shared-slice-read-wide c = omega arith
 
--- src/lib.rt:98:13
 wide-requires : tie.Need-wide-requires Inv-loop μ-loop
 wide-requires c κs = omega arith
 
--- src/lib.rt:99:21
 get-requires : tie.Need-get-requires Inv-loop μ-loop
 get-requires c κs =
     let a = c .before .before .before .before .before .before .before .args in
@@ -42,29 +38,23 @@ get-requires c κs =
     let r = c .before .before .before .before .before .before .before .pre .0 .narrow k in
     omega arith
 
--- src/lib.rt:99:9
 mul-values : tie.Need-mul-values Inv-loop μ-loop
 mul-values c = omega arith
 
--- src/lib.rt:99:9
 slice-write-values : tie.Need-slice-write-values Inv-loop μ-loop
 slice-write-values c = omega arith
 
--- src/lib.rt:100:9
 add-place : tie.Need-add-place Inv-loop μ-loop
 add-place c =
     let a = c .before .before .before .before .before .before .before .before .args in
     omega (arith, total-in (a .widths .now) (c .before .before .before .before .loop .k) (omega arith))
 
--- src/lib.rt:101:9
 add-k : tie.Need-add-k Inv-loop μ-loop
 add-k c = omega arith
 
--- src/lib.rt:97:5
 loop-less : tie.Need-loop-less Inv-loop μ-loop
 loop-less c = omega arith
 
--- src/lib.rt:97:5
 loop-again : tie.Need-loop-again Inv-loop μ-loop
 loop-again c =
     let s = c .before .before .before .before .before .before .before .before in
@@ -85,11 +75,9 @@ loop-again c =
       ),
     )
 
--- src/lib.rt:91:1
 same-length : tie.Need-same-length Inv-loop μ-loop
 same-length c = c .before .loop .inv .1 .1 .0
 
--- src/lib.rt:91:1
 returns : tie.Need-returns Inv-loop μ-loop
 returns c =
     let a = c .before .before .before .before .before .args in

@@ -20,57 +20,44 @@ Inv-loop buf₀ at width value done₀ buf done =
 abbrev μ-loop : tie.MeasureT-loop
 μ-loop buf₀ at width value done₀ buf done = width - done
 
--- src/lib.rt:67:5
 loop-holds : tie.Need-loop-holds Inv-loop μ-loop
 loop-holds c =
     let a = c .before .args in
     (omega arith, (refl, ((λ i. c .slice-known .given i .fits), put-none (a .buf .now) (a .at) (a .width) (a .value) (omega arith))))
 
--- src/lib.rt:68:21
 add-place : tie.Need-add-place Inv-loop μ-loop
 add-place c = omega arith
 
--- src/lib.rt:69:28
 sub-run : tie.Need-sub-run Inv-loop μ-loop
 sub-run c = omega arith
 
--- src/lib.rt:69:13
 run-requires : tie.Need-run-requires Inv-loop μ-loop
 run-requires c κs = omega arith
 
--- src/lib.rt:71:34
 sub-digits : tie.Need-sub-digits Inv-loop μ-loop
 sub-digits c = omega arith
 
--- src/lib.rt:71:34
 sub-digits-2 : tie.Need-sub-digits-2 Inv-loop μ-loop
 sub-digits-2 c = omega arith
 
--- src/lib.rt:71:13
 digits-requires : tie.Need-digits-requires Inv-loop μ-loop
 digits-requires c κs = omega arith
 
--- src/lib.rt:72:26
 slice-read-spliced : tie.Need-slice-read-spliced Inv-loop μ-loop
 slice-read-spliced c = omega arith
 
--- src/lib.rt:72:18
 spliced-requires : tie.Need-spliced-requires Inv-loop μ-loop
 spliced-requires c κs = (omega arith, rw (c .before .digits .ensures) (mod-lt _ (pow-pos (c .before .before .run .result))))
 
--- src/lib.rt:72:9
 slice-write-buf : tie.Need-slice-write-buf Inv-loop μ-loop
 slice-write-buf c = omega arith
 
--- src/lib.rt:73:9
 add-done : tie.Need-add-done Inv-loop μ-loop
 add-done c = omega arith
 
--- src/lib.rt:67:5
 loop-less : tie.Need-loop-less Inv-loop μ-loop
 loop-less c = omega arith
 
--- src/lib.rt:67:5
 loop-again : tie.Need-loop-again Inv-loop μ-loop
 loop-again c =
     let a = c .before .before .before .before .before .before .before .args in
@@ -90,11 +77,9 @@ loop-again c =
       ),
     )
 
--- src/lib.rt:62:1
 same-length : tie.Need-same-length Inv-loop μ-loop
 same-length c = omega arith
 
--- src/lib.rt:62:1
 returns : tie.Need-returns Inv-loop μ-loop
 returns c =
     let a = c .before .before .before .args in

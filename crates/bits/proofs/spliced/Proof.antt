@@ -12,61 +12,47 @@ use borrow.Author.Needs.{needs}
 use Rattle.bits.proofs.spliced.Statement.{statement}
 use Rattle.bits.proofs.spliced.Tie as tie
 
--- src/lib.rt:54:13
 sub-r : tie.Need-sub-r
 sub-r c = search needs
 
--- src/lib.rt:54:13
 sub-r-2 : tie.Need-sub-r-2
 sub-r-2 c = search needs
 
--- src/lib.rt:56:22
 add-high : tie.Need-add-high
 add-high c = search needs
 
--- src/lib.rt:56:22
 cast-high : tie.Need-cast-high
 cast-high c = search needs
 
--- src/lib.rt:56:16
 shr-high : tie.Need-shr-high
 shr-high c = search needs
 
--- src/lib.rt:57:28
 cast-low : tie.Need-cast-low
 cast-low c = search needs
 
--- src/lib.rt:57:20
 shl-low : tie.Need-shl-low
 shl-low c = search needs
 
--- src/lib.rt:57:15
 rem-low : tie.Need-rem-low
 rem-low c = rw (one-shl (8 - c .args .off - c .args .n) 32 (omega arith)) (pow-pos (8 - c .args .off - c .args .n))
 
--- src/lib.rt:58:17
 cast-result : tie.Need-cast-result
 cast-result c = search needs
 
--- src/lib.rt:58:9
 shl-result : tie.Need-shl-result
 shl-result c = search needs
 
--- src/lib.rt:58:8
 add-result : tie.Need-add-result
 add-result c = record {
   fits = splice-fits (c .args .off) (c .args .n) (8 - c .args .off - c .args .n) (c .args .b) (c .args .p) (omega arith) (c .pre .1) (c .fits .b .fits);
 }
 
--- src/lib.rt:58:28
 cast-result-2 : tie.Need-cast-result-2
 cast-result-2 c = search needs
 
--- src/lib.rt:58:7
 shl-result-2 : tie.Need-shl-result-2
 shl-result-2 c = search needs
 
--- src/lib.rt:58:6
 add-result-2 : tie.Need-add-result-2
 add-result-2 c = record {
   fits = lt-trans
@@ -74,13 +60,11 @@ add-result-2 c = record {
       (lit< tt);
 }
 
--- src/lib.rt:58:5
 cast-result-3 : tie.Need-cast-result-3
 cast-result-3 c = record {
   fits = splice-byte (c .args .off) (c .args .n) (8 - c .args .off - c .args .n) (c .args .b) (c .args .p) (omega arith) (c .pre .1) (c .fits .b .fits);
 }
 
--- src/lib.rt:50:1
 returns : tie.Need-returns
 returns c =
     ap (bits 8) (splice-sum (c .args .off) (c .args .n) (8 - c .args .off - c .args .n) (c .args .b) (c .args .p) (omega arith) (c .pre .1) (c .fits .b .fits))

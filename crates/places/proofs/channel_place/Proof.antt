@@ -1,7 +1,7 @@
 -- `places::channel_place` meets its contract. Past 8 messages the first test fails.
 -- Assumes nothing.
 use borrow.Author.Needs.{needs}
-use Rattle.places.proofs.PlaceLaws.{channel-full, channel-test}
+use Rattle.places.proofs.PlaceLaws.{channel-over, channel-test}
 use Rattle.places.proofs.channel_place.Statement.{statement}
 use Rattle.places.proofs.channel_place.Tie as tie
 
@@ -11,7 +11,7 @@ waiting-requires c κs = search needs
 returns : tie.Need-returns
 returns c =
     let a = c .before .before .before .before .args in
-    channel-full (a .n) (a .u) (a .v) (a .row .now) (a .cell .now) (c .before .waiting .result) (c .before .waiting .ensures) (c .if1 .taken)
+    channel-over (a .n) (a .u) (a .v) (a .row .now) (a .cell .now) (c .before .waiting .result) (c .before .waiting .ensures) (c .if1 .taken)
 
 cast-count : tie.Need-cast-count
 cast-count c = search needs

@@ -5,7 +5,7 @@ use mathlib.Core.Path.{sym, _∙_}
 use borrow.Author.Needs.{needs}
 use borrow.Author.Tests.{not-true, not-false}
 use Rattle.bits.proofs.Bytes.{length-unpacked}
-use Rattle.reading.proofs.ExamineLaws.{examined-stops, examined-long, examined-contents, accepted-walk, accepted-end}
+use Rattle.reading.proofs.ExamineLaws.{examined-stops, examined-bad-end, examined-contents, accepted-walk, accepted-end}
 use Rattle.reading.proofs.examine.Statement.{statement}
 use Rattle.reading.proofs.examine.Tie as tie
 
@@ -29,7 +29,7 @@ ends-at-requires c κs =
 
 returns-2 : tie.Need-returns-2
 returns-2 c =
-    examined-long 32 16 _ _ (c .before .before .before .before .before .whole .ensures) (c .before .before .before .w .given .1)
+    examined-bad-end 32 16 _ _ (c .before .before .before .before .before .whole .ensures) (c .before .before .before .w .given .1)
     (sym (c .before .ends-at .ensures) ∙ not-true _ (c .if1 .taken))
 
 contents-requires : tie.Need-contents-requires

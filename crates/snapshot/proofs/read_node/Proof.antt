@@ -8,36 +8,29 @@ use borrow.Author.Needs.{needs}
 use Rattle.snapshot.proofs.read_node.Statement.{statement}
 use Rattle.snapshot.proofs.read_node.Tie as tie
 
--- src/lib.rt:77:9
 decode-requires : tie.Need-decode-requires
 decode-requires c κs = search needs
 
--- src/lib.rt:78:31
 enum-known-h : tie.Need-enum-known-h
 enum-known-h c = search needs
 
--- src/lib.rt:79:9
 of-header-requires : tie.Need-of-header-requires
 of-header-requires c κs = search needs
 
--- src/lib.rt:79:9
 returns : tie.Need-returns
 returns c =
     let s = c .before .before .before .before .before in
     ap (λ (x : SaidNode). looked x (s .args .row .now)) (c .of-header .ensures)
     ∙ node-refused _ (s .args .k) (s .args .place) (s .args .row .now) _ (c .before .before .decode .ensures) (c .before .match .keys2)
 
--- src/lib.rt:81:5
 headed-requires : tie.Need-headed-requires
 headed-requires c κs =
     let g = good-fields _ (c .before .before .before .before .decode .ensures) (c .before .before .h .given .1) in
     (g .length-is, g .low, g .few)
 
--- src/lib.rt:74:1
 same-length : tie.Need-same-length
 same-length c = search needs
 
--- src/lib.rt:74:1
 returns-2 : tie.Need-returns-2
 returns-2 c =
     let h = c .before .before .before .before .before in

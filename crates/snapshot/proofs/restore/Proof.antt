@@ -9,40 +9,32 @@ use borrow.Author.Needs.{needs}
 use Rattle.snapshot.proofs.restore.Statement.{statement}
 use Rattle.snapshot.proofs.restore.Tie as tie
 
--- src/lib.rt:66:9
 decode-requires : tie.Need-decode-requires
 decode-requires c κs = search needs
 
--- src/lib.rt:67:31
 enum-known-h : tie.Need-enum-known-h
 enum-known-h c = search needs
 
--- src/lib.rt:68:9
 of-header-requires : tie.Need-of-header-requires
 of-header-requires c κs = search needs
 
--- src/lib.rt:68:9
 returns : tie.Need-returns
 returns c =
     let s = c .before .before .before .before .before .before in
     let t = tables (s .args .nodes .now) (s .args .channels .now) in
     ap (λ (x : SaidCheck). filled x t) (c .of-header .ensures) ∙ headed-refused _ t _ (c .before .before .decode .ensures) (c .before .match .keys2)
 
--- src/lib.rt:70:5
 headed-requires : tie.Need-headed-requires
 headed-requires c κs =
     let g = good-fields _ (c .before .before .before .before .before .decode .ensures) (c .before .before .before .h .given .1) in
     (g .low, g .few)
 
--- src/lib.rt:63:1
 same-length : tie.Need-same-length
 same-length c = search needs
 
--- src/lib.rt:63:1
 same-length-2 : tie.Need-same-length-2
 same-length-2 c = search needs
 
--- src/lib.rt:63:1
 returns-2 : tie.Need-returns-2
 returns-2 c =
     let h = c .before .before .before .before .before .before .before .before in

@@ -5,41 +5,32 @@ use Rattle.snapshot.proofs.SaveLaws.{passes, save-sizes, save-fault, sa
 use Rattle.snapshot.proofs.save.Statement.{statement}
 use Rattle.snapshot.proofs.save.Tie as tie
 
--- src/lib.rt:53:11
 check-requires : tie.Need-check-requires
 check-requires c κs = search needs
 
--- src/lib.rt:54:72
 enum-told : tie.Need-enum-told
 enum-told c = search needs
 
--- src/lib.rt:54:36
 checked-requires : tie.Need-checked-requires
 checked-requires c κs = passes _ _ (c .before .before .before .check .ensures) (c .before .enum-told .given .1)
 
--- src/lib.rt:55:36
 enum-told-2 : tie.Need-enum-told-2
 enum-told-2 c = search needs
 
--- src/lib.rt:56:33
 enum-known-u : tie.Need-enum-known-u
 enum-known-u c = search needs
 
--- src/lib.rt:50:1
 same-length : tie.Need-same-length
 same-length c = search needs
 
--- src/lib.rt:50:1
 returns : tie.Need-returns
 returns c =
     let m = c .before .before .before .before in
     rw (save-sound _ _ (m .before .before .check .ensures) _ (m .enum-told .given .1)) at (c .before .before .checked .ensures)
 
--- src/lib.rt:50:1
 returns-2 : tie.Need-returns-2
 returns-2 c = save-sizes _ _ (c .before .before .check .ensures) _ (c .enum-told2 .given .1)
 
--- src/lib.rt:50:1
 returns-3 : tie.Need-returns-3
 returns-3 c = save-fault _ _ (c .before .before .before .check .ensures) _ (c .before .u .given .1)
 

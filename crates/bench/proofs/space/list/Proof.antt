@@ -7,23 +7,18 @@ use borrow.Author.Needs.{needs}
 use Rattle.bench.proofs.space.list.Statement.{statement}
 use Rattle.bench.proofs.space.list.Tie as tie
 
--- src/space.rt:34:13
 slice-aggregate-run : tie.Need-slice-aggregate-run
 slice-aggregate-run c = sym (length-take-le _ _ (omega arith))
 
--- src/space.rt:34:9
 run-requires : tie.Need-run-requires
 run-requires c κs = search needs
 
--- src/space.rt:32:1
 same-length : tie.Need-same-length
 same-length c = search needs
 
--- src/space.rt:32:1
 returns : tie.Need-returns
 returns c = search needs
 
--- src/space.rt:32:1
 returns-2 : tie.Need-returns-2
 returns-2 c = search needs
 

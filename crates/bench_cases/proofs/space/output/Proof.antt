@@ -6,7 +6,6 @@ use lib.ListN.{length-replicate}
 use Rattle.bench_cases.proofs.space.output.Statement.{statement}
 use Rattle.bench_cases.proofs.space.output.Tie as tie
 
--- src/space.rt:12:1
 returns : tie.Need-returns
 returns c = sym (length-replicate {A = ℕ} 1048576 0)
 

@@ -7,19 +7,15 @@ use borrow.Author.Needs.{needs}
 use Rattle.bench_cases.proofs.space.write.Statement.{statement}
 use Rattle.bench_cases.proofs.space.write.Tie as tie
 
--- src/space.rt:20:26
 slice-aggregate-write-all : tie.Need-slice-aggregate-write-all
 slice-aggregate-write-all c = sym (length-take-le _ _ (omega arith))
 
--- src/space.rt:20:9
 write-all-requires : tie.Need-write-all-requires
 write-all-requires c κs = search needs
 
--- src/space.rt:18:1
 returns : tie.Need-returns
 returns c = search needs
 
--- src/space.rt:18:1
 returns-2 : tie.Need-returns-2
 returns-2 c = search needs
 

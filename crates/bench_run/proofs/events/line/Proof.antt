@@ -6,67 +6,51 @@ use borrow.Author.Needs.{needs}
 use Rattle.bench_run.proofs.events.line.Statement.{statement}
 use Rattle.bench_run.proofs.events.line.Tie as tie
 
--- src/events.rt:26:11
 parse-requires : tie.Need-parse-requires
 parse-requires c κs = search needs
 
--- src/events.rt:27:21
 enum-known-u : tie.Need-enum-known-u
 enum-known-u c = search needs
 
--- src/events.rt:28:17
 up-requires : tie.Need-up-requires
 up-requires c κs = search needs
 
--- src/events.rt:29:13
 put-answer-requires : tie.Need-put-answer-requires
 put-answer-requires c κs = search needs
 
--- src/events.rt:31:23
 enum-known-u-2 : tie.Need-enum-known-u-2
 enum-known-u-2 c = search needs
 
--- src/events.rt:32:17
 down-requires : tie.Need-down-requires
 down-requires c κs = search needs
 
--- src/events.rt:33:13
 put-answer-requires-2 : tie.Need-put-answer-requires-2
 put-answer-requires-2 c κs = search needs
 
--- src/events.rt:35:26
 enum-known-u-3 : tie.Need-enum-known-u-3
 enum-known-u-3 c = search needs
 
--- src/events.rt:36:17
 receive-requires : tie.Need-receive-requires
 receive-requires c κs = search needs
 
--- src/events.rt:37:13
 put-answer-requires-3 : tie.Need-put-answer-requires-3
 put-answer-requires-3 c κs = search needs
 
--- src/events.rt:39:55
 enum-told : tie.Need-enum-told
 enum-told c = search needs
 
--- src/events.rt:39:31
 put-event-requires : tie.Need-put-event-requires
 put-event-requires c κs = search needs
 
--- src/events.rt:12:1
 same-length : tie.Need-same-length
 same-length c = search needs
 
--- src/events.rt:12:1
 same-length-2 : tie.Need-same-length-2
 same-length-2 c = search needs
 
--- src/events.rt:12:1
 same-length-3 : tie.Need-same-length-3
 same-length-3 c = search needs
 
--- src/events.rt:12:1
 returns : tie.Need-returns
 returns c =
     let b12 = c .before .before .before .before .before .before .before .before .before .before .before .before in
@@ -76,19 +60,15 @@ returns c =
     let p = b14 .parse .ensures in
     line-done (told-up _ _ _ _ p (b12 .u .given .1) (e .up .ensures)) (both (x .0) (x .1)) (x .2)
 
--- src/events.rt:12:1
 same-length-4 : tie.Need-same-length-4
 same-length-4 c = search needs
 
--- src/events.rt:12:1
 same-length-5 : tie.Need-same-length-5
 same-length-5 c = search needs
 
--- src/events.rt:12:1
 same-length-6 : tie.Need-same-length-6
 same-length-6 c = search needs
 
--- src/events.rt:12:1
 returns-2 : tie.Need-returns-2
 returns-2 c =
     let b12 = c .before .before .before .before .before .before .before .before .before .before .before .before in
@@ -98,19 +78,15 @@ returns-2 c =
     let p = b14 .parse .ensures in
     line-done (told-down _ _ _ _ p (b12 .u2 .given .1) (e .down .ensures)) (both (x .0) (x .1)) (x .2)
 
--- src/events.rt:12:1
 same-length-7 : tie.Need-same-length-7
 same-length-7 c = search needs
 
--- src/events.rt:12:1
 same-length-8 : tie.Need-same-length-8
 same-length-8 c = search needs
 
--- src/events.rt:12:1
 same-length-9 : tie.Need-same-length-9
 same-length-9 c = search needs
 
--- src/events.rt:12:1
 returns-3 : tie.Need-returns-3
 returns-3 c =
     let b12 = c .before .before .before .before .before .before .before .before .before .before .before .before in
@@ -120,11 +96,9 @@ returns-3 c =
     let p = b14 .parse .ensures in
     line-done (told-receive _ _ _ _ p (b12 .u3 .given .1) (e .receive .ensures)) (both (x .0) (x .1)) (x .2)
 
--- src/events.rt:12:1
 same-length-10 : tie.Need-same-length-10
 same-length-10 c = search needs
 
--- src/events.rt:12:1
 returns-4 : tie.Need-returns-4
 returns-4 c =
     let x = c .before .before .put-event .ensures in

@@ -19,38 +19,30 @@ Inv-loop input from n nodes₀ channels₀ out₀ at start₀ k₀ place₀ node
 abbrev μ-loop : tie.MeasureT-loop
 μ-loop input from n nodes₀ channels₀ out₀ at start₀ k₀ place₀ nodes channels out start k place = length input + 1 - start
 
--- src/events.rt:61:5
 loop-holds : tie.Need-loop-holds Inv-loop μ-loop
 loop-holds c = (run-start _ _ _ _ _ _, refl, refl)
 
--- src/events.rt:62:13
 line-end-requires : tie.Need-line-end-requires Inv-loop μ-loop
 line-end-requires c κs = search needs
 
--- src/events.rt:63:22
 sub-line : tie.Need-sub-line Inv-loop μ-loop
 sub-line c = search needs
 
--- src/events.rt:63:22
 part-line-start : tie.Need-part-line-start Inv-loop μ-loop
 part-line-start c = search needs
 
--- src/events.rt:63:22
 part-line-end : tie.Need-part-line-end Inv-loop μ-loop
 part-line-end c = search needs
 
--- src/events.rt:63:9
 line-requires : tie.Need-line-requires Inv-loop μ-loop
 line-requires c κs =
     let l = c .before .before .before .before .before .before .loop in
     let s = c .before .before .before .before .before .before .before .before .before .before .before in
     omega (arith, l .inv .0 .near, l .inv .0 .few, s .pre .0, s .pre .1)
 
--- src/events.rt:64:17
 add-start : tie.Need-add-start Inv-loop μ-loop
 add-start c = search needs
 
--- src/events.rt:65:9
 add-k : tie.Need-add-k Inv-loop μ-loop
 add-k c =
     let b12 = c .before .before .before .before .before .before .before .before .before .before .before .before in
@@ -58,11 +50,9 @@ add-k c =
     let b18 = b13 .before .before .before .before .before in
     let l = b13 .loop in omega (arith, l .inv .0 .few, b18 .pre .1)
 
--- src/events.rt:61:5
 loop-less : tie.Need-loop-less Inv-loop μ-loop
 loop-less c = omega arith
 
--- src/events.rt:61:5
 loop-again : tie.Need-loop-again Inv-loop μ-loop
 loop-again c =
     let b11 = c .before .before .before .before .before .before .before .before .before .before .before in
@@ -77,19 +67,15 @@ loop-again c =
       c .before .before .before .channels .given ∙ l .inv .2,
     )
 
--- src/events.rt:44:1
 same-length : tie.Need-same-length Inv-loop μ-loop
 same-length c = c .before .loop .inv .1
 
--- src/events.rt:44:1
 same-length-2 : tie.Need-same-length-2 Inv-loop μ-loop
 same-length-2 c = c .before .loop .inv .2
 
--- src/events.rt:44:1
 same-length-3 : tie.Need-same-length-3 Inv-loop μ-loop
 same-length-3 c = run-length _ _ _ _ _ _ _ _ (c .before .loop .start) (c .before .loop .k) (c .before .loop .place) (c .before .loop .inv .0)
 
--- src/events.rt:44:1
 returns : tie.Need-returns Inv-loop μ-loop
 returns c =
     let l = c .before .loop in

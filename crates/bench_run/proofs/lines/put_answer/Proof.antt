@@ -5,27 +5,21 @@ use borrow.Author.Needs.{needs}
 use Rattle.bench_run.proofs.lines.put_answer.Statement.{statement}
 use Rattle.bench_run.proofs.lines.put_answer.Tie as tie
 
--- src/lines.rt:67:27
 number-requires : tie.Need-number-requires
 number-requires c κs = search needs
 
--- src/lines.rt:67:53
 letter-requires : tie.Need-letter-requires
 letter-requires c κs = search needs
 
--- src/lines.rt:67:79
 sent-requires : tie.Need-sent-requires
 sent-requires c κs = search needs
 
--- src/lines.rt:67:5
 put-event-requires : tie.Need-put-event-requires
 put-event-requires c κs = search needs
 
--- src/lines.rt:62:1
 same-length : tie.Need-same-length
 same-length c = search needs
 
--- src/lines.rt:62:1
 returns : tie.Need-returns
 returns c =
     let e = c .before .before .put-event .ensures in

@@ -5,27 +5,21 @@ use borrow.Author.Needs.{needs}
 use Rattle.bench_run.proofs.lines.put_event.Statement.{statement}
 use Rattle.bench_run.proofs.lines.put_event.Tie as tie
 
--- src/lines.rt:55:9
 put-number-requires : tie.Need-put-number-requires
 put-number-requires c κs = search needs
 
--- src/lines.rt:56:9
 put-number-requires-2 : tie.Need-put-number-requires-2
 put-number-requires-2 c κs = search needs
 
--- src/lines.rt:57:9
 put-letter-requires : tie.Need-put-letter-requires
 put-letter-requires c κs = search needs
 
--- src/lines.rt:58:5
 put-number-requires-3 : tie.Need-put-number-requires-3
 put-number-requires-3 c κs = search needs
 
--- src/lines.rt:50:1
 same-length : tie.Need-same-length
 same-length c = search needs
 
--- src/lines.rt:50:1
 returns : tie.Need-returns
 returns c =
     let s = c .before .before .before .before .before .before .before .before .before .before .before .before .before .before .before .before .before in

@@ -5,19 +5,15 @@ use borrow.Author.Needs.{needs}
 use Rattle.bench_run.proofs.lines.put_letter.Statement.{statement}
 use Rattle.bench_run.proofs.lines.put_letter.Tie as tie
 
--- src/lines.rt:45:9
 put-byte-requires : tie.Need-put-byte-requires
 put-byte-requires c κs = search needs
 
--- src/lines.rt:46:5
 put-byte-requires-2 : tie.Need-put-byte-requires-2
 put-byte-requires-2 c κs = search needs
 
--- src/lines.rt:41:1
 same-length : tie.Need-same-length
 same-length c = search needs
 
--- src/lines.rt:41:1
 returns : tie.Need-returns
 returns c =
     let first = c .before .before .before .before .before .before .put-byte .ensures in

@@ -8,21 +8,17 @@ use borrow.Author.Needs.{needs}
 use Rattle.bench_run.proofs.lines.put_number.Statement.{statement}
 use Rattle.bench_run.proofs.lines.put_number.Tie as tie
 
--- src/lines.rt:36:9
 put-decimal-requires : tie.Need-put-decimal-requires
 put-decimal-requires c κs = search needs
 
--- src/lines.rt:37:5
 put-byte-requires : tie.Need-put-byte-requires
 put-byte-requires c κs =
     let s = c .before .before .before .before .before .before in
     omega (arith, c .before .before .before .put-decimal .ensures .1, length-decimal-le (s .args .x), s .pre)
 
--- src/lines.rt:32:1
 same-length : tie.Need-same-length
 same-length c = search needs
 
--- src/lines.rt:32:1
 returns : tie.Need-returns
 returns c =
     let s = c .before .before .before .before .before .before .before .before .before in

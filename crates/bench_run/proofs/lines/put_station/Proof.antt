@@ -5,23 +5,18 @@ use borrow.Author.Needs.{needs}
 use Rattle.bench_run.proofs.lines.put_station.Statement.{statement}
 use Rattle.bench_run.proofs.lines.put_station.Tie as tie
 
--- src/lines.rt:76:9
 put-number-requires : tie.Need-put-number-requires
 put-number-requires c κs = search needs
 
--- src/lines.rt:77:9
 put-number-requires-2 : tie.Need-put-number-requires-2
 put-number-requires-2 c κs = search needs
 
--- src/lines.rt:78:5
 put-number-requires-3 : tie.Need-put-number-requires-3
 put-number-requires-3 c κs = search needs
 
--- src/lines.rt:71:1
 same-length : tie.Need-same-length
 same-length c = search needs
 
--- src/lines.rt:71:1
 returns : tie.Need-returns
 returns c =
     let s = c .before .before .before .before .before .before .before .before .before .before .before .before .before in

@@ -13,42 +13,33 @@ use borrow.Author.Needs.{needs}
 use Rattle.bench_run.proofs.plot.list.Statement.{statement}
 use Rattle.bench_run.proofs.plot.list.Tie as tie
 
--- src/plot.rt:61:9
 put-bad-plot-requires : tie.Need-put-bad-plot-requires
 put-bad-plot-requires c κs = search needs
 
--- src/plot.rt:61:9
 same-length : tie.Need-same-length
 same-length c = search needs
 
--- src/plot.rt:61:9
 returns : tie.Need-returns
 returns c =
     let x = c .before .before .put-bad-plot .ensures in
     let input = c .before .before .before .before .before .before .before .args .input .now in
     is-listing input badPlot _ (listing-misfit input (c .before .before .before .before .if1 .taken)) (x .0) (x .1)
 
--- src/plot.rt:63:9
 line-end-requires : tie.Need-line-end-requires
 line-end-requires c κs = search needs
 
--- src/plot.rt:64:28
 slice-aggregate-head : tie.Need-slice-aggregate-head
 slice-aggregate-head c = sym (length-take-le _ _ (c .before .line-end .ensures .2))
 
--- src/plot.rt:64:9
 head-requires : tie.Need-head-requires
 head-requires c κs = search needs
 
--- src/plot.rt:66:9
 put-bad-plot-requires-2 : tie.Need-put-bad-plot-requires-2
 put-bad-plot-requires-2 c κs = search needs
 
--- src/plot.rt:66:9
 same-length-2 : tie.Need-same-length-2
 same-length-2 c = search needs
 
--- src/plot.rt:66:9
 returns-2 : tie.Need-returns-2
 returns-2 c =
     let x = c .before .before .put-bad-plot2 .ensures in
@@ -58,11 +49,9 @@ returns-2 c =
     is-listing input badPlot _ (listing-bad input (f .0) (f .1) _ (c .before .before .before .before .before .before .before .line-end .ensures .0) zero)
     (x .0) (x .1)
 
--- src/plot.rt:68:17
 add-plot : tie.Need-add-plot
 add-plot c = search needs
 
--- src/plot.rt:68:5
 plot-requires : tie.Need-plot-requires
 plot-requires c κs =
     let input = c .before .before .before .before .before .before .before .before .args .input .now in
@@ -70,11 +59,9 @@ plot-requires c κs =
     let low = head-range (take (c .before .before .before .before .line-end .result) input) in
     (omega (arith, c .before .if2 .left), omega (arith, c .before .before .head .ensures, low), f .1)
 
--- src/plot.rt:57:1
 same-length-3 : tie.Need-same-length-3
 same-length-3 c = search needs
 
--- src/plot.rt:57:1
 returns-3 : tie.Need-returns-3
 returns-3 c =
     let x = c .before .before .plot .ensures in

@@ -8,59 +8,47 @@ use borrow.Author.Needs.{needs}
 use Rattle.bench_run.proofs.plot.plot.Statement.{statement}
 use Rattle.bench_run.proofs.plot.plot.Tie as tie
 
--- src/plot.rt:48:21
 blank-nodes-requires : tie.Need-blank-nodes-requires
 blank-nodes-requires c κs = search needs
 
--- src/plot.rt:49:24
 blank-channels-requires : tie.Need-blank-channels-requires
 blank-channels-requires c κs = search needs
 
--- src/plot.rt:51:22
 mul-a : tie.Need-mul-a
 mul-a c = search needs
 
--- src/plot.rt:51:18
 add-a : tie.Need-add-a
 add-a c = search needs
 
--- src/plot.rt:51:13
 mul-a-2 : tie.Need-mul-a-2
 mul-a-2 c = omega (arith, small-rows (c .before .before .before .before .args .n) (c .before .before .before .before .pre .1))
 
--- src/plot.rt:52:13
 mul-b : tie.Need-mul-b
 mul-b c = omega (arith, small-cells (c .before .before .before .before .args .n) (c .before .before .before .before .pre .1))
 
--- src/plot.rt:52:13
 mul-b-2 : tie.Need-mul-b-2
 mul-b-2 c = omega (arith, small-cells (c .before .before .before .before .args .n) (c .before .before .before .before .pre .1))
 
--- src/plot.rt:53:33
 array-borrow-prefix-nodes : tie.Need-array-borrow-prefix-nodes
 array-borrow-prefix-nodes c =
     let s = c .before .before .before .before in
     omega (arith, small-rows (s .args .n) (s .pre .1), c .before .blank-nodes .ensures)
 
--- src/plot.rt:53:33
 slice-aggregate-with-tables : tie.Need-slice-aggregate-with-tables
 slice-aggregate-with-tables c =
     let s = c .before .before .before .before .before in
     sym (length-take-le _ _ (omega (arith, small-rows (s .args .n) (s .pre .1), c .before .before .blank-nodes .ensures)))
 
--- src/plot.rt:53:50
 array-borrow-prefix-channels : tie.Need-array-borrow-prefix-channels
 array-borrow-prefix-channels c =
     let s = c .before .before .before .before .before in
     omega (arith, small-cells (s .args .n) (s .pre .1), c .before .blank-channels .ensures)
 
--- src/plot.rt:53:50
 slice-aggregate-with-tables-2 : tie.Need-slice-aggregate-with-tables-2
 slice-aggregate-with-tables-2 c =
     let s = c .before .before .before .before .before .before in
     sym (length-take-le _ _ (omega (arith, small-cells (s .args .n) (s .pre .1), c .before .before .blank-channels .ensures)))
 
--- src/plot.rt:53:5
 with-tables-requires : tie.Need-with-tables-requires
 with-tables-requires c κs =
     let s = c .before .before .before .before .before .before .before in
@@ -68,11 +56,9 @@ with-tables-requires c κs =
     (c .before .before .before .blank-channels .ensures) in
     (size, s .pre .2)
 
--- src/plot.rt:43:1
 same-length : tie.Need-same-length
 same-length c = search needs
 
--- src/plot.rt:43:1
 returns : tie.Need-returns
 returns c = search needs
 

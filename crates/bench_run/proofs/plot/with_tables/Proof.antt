@@ -8,23 +8,18 @@ use borrow.Author.Needs.{needs}
 use Rattle.bench_run.proofs.plot.with_tables.Statement.{statement}
 use Rattle.bench_run.proofs.plot.with_tables.Tie as tie
 
--- src/plot.rt:36:5
 fresh-requires : tie.Need-fresh-requires
 fresh-requires c κs = search needs
 
--- src/plot.rt:37:9
 put-event-head-requires : tie.Need-put-event-head-requires
 put-event-head-requires c κs = search needs
 
--- src/plot.rt:38:9
 lines-requires : tie.Need-lines-requires
 lines-requires c κs = search needs
 
--- src/plot.rt:39:9
 put-station-head-requires : tie.Need-put-station-head-requires
 put-station-head-requires c κs = search needs
 
--- src/plot.rt:40:5
 stations-requires : tie.Need-stations-requires
 stations-requires c κs =
     let b11 = c .before .before .before .before .before .before .before .before .before .before .before in
@@ -35,19 +30,15 @@ stations-requires c κs =
     let wide = b11 .nodes2 .given ∙ (b23 .nodes .given ∙ s .pre .0 .nodes) in
     (s .pre .0 .few, wide, omega (arith, c .before .before .before .before .put-station-head .ensures .1, b12 .lines .ensures .2))
 
--- src/plot.rt:24:1
 same-length : tie.Need-same-length
 same-length c = search needs
 
--- src/plot.rt:24:1
 same-length-2 : tie.Need-same-length-2
 same-length-2 c = search needs
 
--- src/plot.rt:24:1
 same-length-3 : tie.Need-same-length-3
 same-length-3 c = search needs
 
--- src/plot.rt:24:1
 returns : tie.Need-returns
 returns c =
     let b12 = c .before .before .before .before .before .before .before .before .before .before .before .before in

@@ -6,27 +6,21 @@ use borrow.Author.Needs.{needs}
 use Rattle.bench_run.proofs.stations.station.Statement.{statement}
 use Rattle.bench_run.proofs.stations.station.Tie as tie
 
--- src/stations.rt:17:9
 node-requires : tie.Need-node-requires
 node-requires c κs = search needs
 
--- src/stations.rt:18:9
 height-in-requires : tie.Need-height-in-requires
 height-in-requires c κs = search needs
 
--- src/stations.rt:19:57
 clock-requires : tie.Need-clock-requires
 clock-requires c κs = search needs
 
--- src/stations.rt:19:5
 put-station-requires : tie.Need-put-station-requires
 put-station-requires c κs = search needs
 
--- src/stations.rt:12:1
 same-length : tie.Need-same-length
 same-length c = search needs
 
--- src/stations.rt:12:1
 returns : tie.Need-returns
 returns c =
     let b9 = c .before .before .before .before .before .before .before .before .before in

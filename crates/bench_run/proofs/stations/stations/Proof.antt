@@ -20,11 +20,9 @@ Inv-loop n nodes out₀ at place₀ u₀ out place u = Printed n (stationLineOn 
 abbrev μ-loop : tie.MeasureT-loop
 μ-loop n nodes out₀ at place₀ u₀ out place u = suc n - u
 
--- src/stations.rt:30:5
 loop-holds : tie.Need-loop-holds Inv-loop μ-loop
 loop-holds c = printed-none _ _ _ _
 
--- src/stations.rt:31:9
 station-requires : tie.Need-station-requires Inv-loop μ-loop
 station-requires c κs =
     let l = c .before .before .loop in
@@ -32,26 +30,21 @@ station-requires c κs =
     let node : Node (s .args .n) (l .u) = record { low = l .inv .low; high = c .before .loop-test .taken } in
     (s .pre .0, node, s .pre .1, omega (arith, l .inv .near, c .before .loop-test .taken, s .pre .0, s .pre .2))
 
--- src/stations.rt:32:9
 add-u : tie.Need-add-u Inv-loop μ-loop
 add-u c = omega arith
 
--- src/stations.rt:30:5
 loop-less : tie.Need-loop-less Inv-loop μ-loop
 loop-less c = omega arith
 
--- src/stations.rt:30:5
 loop-again : tie.Need-loop-again Inv-loop μ-loop
 loop-again c =
     let l = c .before .before .before .before .before .loop in
     let e = c .before .before .station .ensures in
     printed-next _ _ _ _ _ _ _ _ (l .u) (l .inv) (c .before .before .before .before .loop-test .taken) (both (e .0) (e .1)) (e .2)
 
--- src/stations.rt:23:1
 same-length : tie.Need-same-length Inv-loop μ-loop
 same-length c = ap length (c .before .loop .inv .so-far .bytes) ∙ length-poured _ _ _
 
--- src/stations.rt:23:1
 returns : tie.Need-returns Inv-loop μ-loop
 unfolding stationLinesOn
 returns c = printed-all _ _ _ _ _ _ (c .before .loop .u) (c .before .loop .inv) (omega arith)

@@ -17,59 +17,45 @@ Inv-loop words₀ cell count u k₀ words k = (cell ≤ 585) × (count ≤ 8) ×
 abbrev μ-loop : tie.MeasureT-loop
 μ-loop words₀ cell count u k₀ words k = count - k
 
--- src/scenes.rt:48:5
 put-requires : tie.Need-put-requires Inv-loop μ-loop
 put-requires c κs = search needs
 
--- src/scenes.rt:50:5
 loop-holds : tie.Need-loop-holds Inv-loop μ-loop
 loop-holds c = search needs
 
--- src/scenes.rt:51:18
 add-at : tie.Need-add-at Inv-loop μ-loop
 add-at c = search needs
 
--- src/scenes.rt:51:30
 cast-at : tie.Need-cast-at Inv-loop μ-loop
 cast-at c = search needs
 
--- src/scenes.rt:51:29
 mul-at : tie.Need-mul-at Inv-loop μ-loop
 mul-at c = search needs
 
--- src/scenes.rt:51:18
 add-at-2 : tie.Need-add-at-2 Inv-loop μ-loop
 add-at-2 c = search needs
 
--- src/scenes.rt:52:9
 height-of-requires : tie.Need-height-of-requires Inv-loop μ-loop
 height-of-requires c κs = search needs
 
--- src/scenes.rt:53:20
 add-put : tie.Need-add-put Inv-loop μ-loop
 add-put c = search needs
 
--- src/scenes.rt:53:9
 put-requires-2 : tie.Need-put-requires-2 Inv-loop μ-loop
 put-requires-2 c κs = search needs
 
--- src/scenes.rt:54:9
 add-k : tie.Need-add-k Inv-loop μ-loop
 add-k c = search needs
 
--- src/scenes.rt:50:5
 loop-less : tie.Need-loop-less Inv-loop μ-loop
 loop-less c = search needs
 
--- src/scenes.rt:50:5
 loop-again : tie.Need-loop-again Inv-loop μ-loop
 loop-again c = search needs
 
--- src/scenes.rt:45:1
 same-length : tie.Need-same-length Inv-loop μ-loop
 same-length c = search needs
 
--- src/scenes.rt:45:1
 returns : tie.Need-returns Inv-loop μ-loop
 returns c = search needs
 

@@ -37,6 +37,7 @@ put-fields-requires c κs =
     rw (b3 .widths .ensures) (
       height-room (a .buf .now) (a .at) (a .depth) (length (a .words .now)) (s .pre .1 .0) (s .pre .1 .1) (s .pre .0),
       length-widths (a .depth) 7 (omega arith) ∙ sym e,
+      omega (arith, length-widths (a .depth) 7 (omega arith)),
     )
 
 add-put : tie.Need-add-put

@@ -11,39 +11,30 @@ use Rattle.image_cases.proofs.damage.looked.Lts as lts
 use Rattle.image_cases.proofs.lines.looked.Reads as looked-reads
 use Rattle.snapshot.proofs.read_node.Reads as read-node-reads
 
--- src/damage.rt:137:54
 slice-aggregate-read-node : tie.Need-slice-aggregate-read-node
 slice-aggregate-read-node c = sym (length-take-le _ _ (omega arith))
 
--- src/damage.rt:137:77
 slice-relend-prefix-read-node : tie.Need-slice-relend-prefix-read-node
 slice-relend-prefix-read-node c = search needs
 
--- src/damage.rt:137:77
 slice-aggregate-read-node-2 : tie.Need-slice-aggregate-read-node-2
 slice-aggregate-read-node-2 c = sym (length-take-le _ _ (omega arith))
 
--- src/damage.rt:137:34
 read-node-requires : tie.Need-read-node-requires
 read-node-requires c κs = search needs
 
--- src/damage.rt:137:13
 looked-requires : tie.Need-looked-requires
 looked-requires c κs = search needs
 
--- src/damage.rt:134:1
 same-length : tie.Need-same-length
 same-length c = search needs
 
--- src/damage.rt:134:1
 returns : tie.Need-returns
 returns c = search needs
 
--- src/damage.rt:134:1
 returns-2 : tie.Need-returns-2
 returns-2 c = search needs
 
--- src/damage.rt:134:1
 returns-3 : tie.Need-returns-3
 returns-3 c = search needs
 

@@ -11,31 +11,24 @@ use Rattle.image_cases.proofs.damage.restored.Lts as lts
 use Rattle.image_cases.proofs.lines.restored.Reads as restored-reads
 use Rattle.snapshot.proofs.restore.Reads as restore-reads
 
--- src/damage.rt:61:50
 slice-aggregate-restore : tie.Need-slice-aggregate-restore
 slice-aggregate-restore c = sym (length-take-le _ _ (omega arith))
 
--- src/damage.rt:61:32
 restore-requires : tie.Need-restore-requires
 restore-requires c κs = search needs
 
--- src/damage.rt:61:9
 restored-requires : tie.Need-restored-requires
 restored-requires c κs = search needs
 
--- src/damage.rt:59:1
 same-length : tie.Need-same-length
 same-length c = search needs
 
--- src/damage.rt:59:1
 same-length-2 : tie.Need-same-length-2
 same-length-2 c = search needs
 
--- src/damage.rt:59:1
 returns : tie.Need-returns
 returns c = search needs
 
--- src/damage.rt:59:1
 returns-2 : tie.Need-returns-2
 returns-2 c = search needs
 

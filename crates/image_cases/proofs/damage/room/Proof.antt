@@ -11,31 +11,24 @@ use Rattle.image_cases.proofs.damage.room.Lts as lts
 use Rattle.image_cases.proofs.lines.saved.Reads as saved-reads
 use Rattle.snapshot.proofs.save.Reads as save-reads
 
--- src/damage.rt:34:64
 slice-relend-prefix-save : tie.Need-slice-relend-prefix-save
 slice-relend-prefix-save c = search needs
 
--- src/damage.rt:34:64
 slice-aggregate-save : tie.Need-slice-aggregate-save
 slice-aggregate-save c = sym (length-take-le _ _ (omega arith))
 
--- src/damage.rt:34:29
 save-requires : tie.Need-save-requires
 save-requires c κs = search needs
 
--- src/damage.rt:34:9
 saved-requires : tie.Need-saved-requires
 saved-requires c κs = search needs
 
--- src/damage.rt:32:1
 same-length : tie.Need-same-length
 same-length c = search needs
 
--- src/damage.rt:32:1
 returns : tie.Need-returns
 returns c = search needs
 
--- src/damage.rt:32:1
 returns-2 : tie.Need-returns-2
 returns-2 c = search needs
 

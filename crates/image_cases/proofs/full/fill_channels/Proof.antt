@@ -16,31 +16,24 @@ Inv-loop channels₀ i₀ channels i = length channels ≡ length channels₀
 abbrev μ-loop : tie.MeasureT-loop
 μ-loop channels₀ i₀ channels i = 256 - i
 
--- src/full.rt:61:5
 loop-holds : tie.Need-loop-holds Inv-loop μ-loop
 loop-holds c = search needs
 
--- src/full.rt:62:9
 fill-cell-requires : tie.Need-fill-cell-requires Inv-loop μ-loop
 fill-cell-requires c κs = search needs
 
--- src/full.rt:63:9
 add-i : tie.Need-add-i Inv-loop μ-loop
 add-i c = search needs
 
--- src/full.rt:61:5
 loop-less : tie.Need-loop-less Inv-loop μ-loop
 loop-less c = search needs
 
--- src/full.rt:61:5
 loop-again : tie.Need-loop-again Inv-loop μ-loop
 loop-again c = search needs
 
--- src/full.rt:59:1
 same-length : tie.Need-same-length Inv-loop μ-loop
 same-length c = search needs
 
--- src/full.rt:59:1
 returns : tie.Need-returns Inv-loop μ-loop
 returns c = search needs
 

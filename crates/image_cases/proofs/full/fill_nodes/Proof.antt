@@ -17,55 +17,42 @@ Inv-loop nodes₀ u₀ nodes u = length nodes ≡ length nodes₀
 abbrev μ-loop : tie.MeasureT-loop
 μ-loop nodes₀ u₀ nodes u = 16 - u
 
--- src/full.rt:64:5
 loop-holds : tie.Need-loop-holds Inv-loop μ-loop
 loop-holds c = search needs
 
--- src/full.rt:65:50
 add-remove : tie.Need-add-remove Inv-loop μ-loop
 add-remove c = search needs
 
--- src/full.rt:65:49
 cast-remove : tie.Need-cast-remove Inv-loop μ-loop
 cast-remove c = search needs
 
--- src/full.rt:65:13
 remove-requires : tie.Need-remove-requires Inv-loop μ-loop
 remove-requires c κs = search needs
 
--- src/full.rt:66:20
 mul-put : tie.Need-mul-put Inv-loop μ-loop
 mul-put c = search needs
 
--- src/full.rt:66:20
 add-put : tie.Need-add-put Inv-loop μ-loop
 add-put c = search needs
 
--- src/full.rt:66:33
 cast-put : tie.Need-cast-put Inv-loop μ-loop
 cast-put c = search needs
 
--- src/full.rt:66:9
 put-requires : tie.Need-put-requires Inv-loop μ-loop
 put-requires c κs = search needs
 
--- src/full.rt:67:9
 add-u : tie.Need-add-u Inv-loop μ-loop
 add-u c = search needs
 
--- src/full.rt:64:5
 loop-less : tie.Need-loop-less Inv-loop μ-loop
 loop-less c = search needs
 
--- src/full.rt:64:5
 loop-again : tie.Need-loop-again Inv-loop μ-loop
 loop-again c = search needs
 
--- src/full.rt:62:1
 same-length : tie.Need-same-length Inv-loop μ-loop
 same-length c = search needs
 
--- src/full.rt:62:1
 returns : tie.Need-returns Inv-loop μ-loop
 returns c = search needs
 

@@ -17,47 +17,36 @@ Inv-loop words₀ cell u k₀ words k = (cell ≤ 65000) × (length words ≡ le
 abbrev μ-loop : tie.MeasureT-loop
 μ-loop words₀ cell u k₀ words k = 8 - k
 
--- src/full.rt:42:5
 put-requires : tie.Need-put-requires Inv-loop μ-loop
 put-requires c κs = search needs
 
--- src/full.rt:44:5
 loop-holds : tie.Need-loop-holds Inv-loop μ-loop
 loop-holds c = search needs
 
--- src/full.rt:45:24
 add-message : tie.Need-add-message Inv-loop μ-loop
 add-message c = search needs
 
--- src/full.rt:45:35
 mul-message : tie.Need-mul-message Inv-loop μ-loop
 mul-message c = search needs
 
--- src/full.rt:45:24
 add-message-2 : tie.Need-add-message-2 Inv-loop μ-loop
 add-message-2 c = search needs
 
--- src/full.rt:45:9
 message-requires : tie.Need-message-requires Inv-loop μ-loop
 message-requires c κs = search needs
 
--- src/full.rt:46:9
 add-k : tie.Need-add-k Inv-loop μ-loop
 add-k c = search needs
 
--- src/full.rt:44:5
 loop-less : tie.Need-loop-less Inv-loop μ-loop
 loop-less c = search needs
 
--- src/full.rt:44:5
 loop-again : tie.Need-loop-again Inv-loop μ-loop
 loop-again c = search needs
 
--- src/full.rt:39:1
 same-length : tie.Need-same-length Inv-loop μ-loop
 same-length c = search needs
 
--- src/full.rt:39:1
 returns : tie.Need-returns Inv-loop μ-loop
 returns c = search needs
 

@@ -7,46 +7,36 @@ use borrow.Author.Needs.{needs}
 use Rattle.snapshot.proofs.looking.headed.Statement.{statement}
 use Rattle.snapshot.proofs.looking.headed.Tie as tie
 
--- src/looking.rt:41:22
 cast-if1 : tie.Need-cast-if1
 cast-if1 c = search needs
 
--- src/looking.rt:41:21
 mul-if1 : tie.Need-mul-if1
 mul-if1 c = search needs
 
--- src/looking.rt:42:9
 returns : tie.Need-returns
 returns c = node-sizes _ _ _ _ _ (c .if1 .taken)
 
--- src/looking.rt:44:11
 examine-requires : tie.Need-examine-requires
 examine-requires c κs = search needs
 
--- src/looking.rt:45:69
 enum-told : tie.Need-enum-told
 enum-told c = search needs
 
--- src/looking.rt:45:37
 placed-requires : tie.Need-placed-requires
 placed-requires c κs =
     let s = c .before .before .before .before .before .before .before .before in
     let wide = c .before .before .before .before .if1 .left in
     (s .pre .0, s .pre .2, wide, sound-walks _ _ (c .before .before .before .examine .ensures) (s .pre .2) (c .before .enum-told .given .1))
 
--- src/looking.rt:46:34
 enum-known-u : tie.Need-enum-known-u
 enum-known-u c = search needs
 
--- src/looking.rt:47:38
 enum-told-2 : tie.Need-enum-told-2
 enum-told-2 c = search needs
 
--- src/looking.rt:31:1
 same-length : tie.Need-same-length
 same-length c = search needs
 
--- src/looking.rt:31:1
 returns-2 : tie.Need-returns-2
 returns-2 c =
     c .before .before .placed .ensures
@@ -54,11 +44,9 @@ returns-2 c =
     let e = told .before .before in
     node-sound _ _ _ _ _ (e .before .if1 .left) (e .examine .ensures) (told .enum-told .given .1))
 
--- src/looking.rt:31:1
 returns-3 : tie.Need-returns-3
 returns-3 c = node-fault _ _ _ _ _ (c .before .before .before .before .if1 .left) (c .before .before .before .examine .ensures) (c .before .u .given .1)
 
--- src/looking.rt:31:1
 returns-4 : tie.Need-returns-4
 returns-4 c = node-end _ _ _ _ _ (c .before .before .before .if1 .left) (c .before .before .examine .ensures) (c .enum-told2 .given .1)
 

@@ -9,22 +9,18 @@ use borrow.Author.Needs.{needs}
 use Rattle.snapshot.proofs.looking.placed.Statement.{statement}
 use Rattle.snapshot.proofs.looking.placed.Tie as tie
 
--- src/looking.rt:67:9
 returns : tie.Need-returns
 returns c = not-node _ _ _ _ _ (c .if1 .taken)
 
--- src/looking.rt:69:9
 start-requires : tie.Need-start-requires
 start-requires c κs = let s = c .before .before .before .before in (s .pre .0, s .pre .1, node-is _ (s .args .k) (c .if1 .left))
 
--- src/looking.rt:71:9
 returns-2 : tie.Need-returns-2
 returns-2 c =
     let s = c .before .before .before .before .before .before in
     let node = node-is _ (s .args .k) (c .before .before .if1 .left) in
     not-place _ _ _ _ _ node (λ e. c .if2 .taken (e ∙ sym (c .before .start .ensures .0)))
 
--- src/looking.rt:73:9
 record-at-requires : tie.Need-record-at-requires
 record-at-requires c κs =
     let s = c .before .before .before .before .before .before .before in
@@ -32,11 +28,9 @@ record-at-requires c κs =
     let at = c .before .before .start .ensures .0 ∙ ap (λ (h : ℕ). nodePlace h 16 (s .args .fields .n) (s .args .k)) (s .pre .0) in
     (omega (arith, node .low, node .high), s .pre .1, s .pre .2, record-inside _ _ (s .args .k) _ (s .pre .3) node at)
 
--- src/looking.rt:62:1
 same-length : tie.Need-same-length
 same-length c = search needs
 
--- src/looking.rt:62:1
 returns-3 : tie.Need-returns-3
 returns-3 c =
     let s = c .before .before .before .before .before .before .before .before .before .before in

@@ -9,31 +9,24 @@ use borrow.Author.Needs.{needs}
 use Rattle.snapshot.proofs.restoring.headed.Statement.{statement}
 use Rattle.snapshot.proofs.restoring.headed.Tie as tie
 
--- src/restoring.rt:26:9
 is-sized-requires : tie.Need-is-sized-requires
 is-sized-requires c κs = search needs
 
--- src/restoring.rt:27:9
 same-length : tie.Need-same-length
 same-length c = search needs
 
--- src/restoring.rt:27:9
 same-length-2 : tie.Need-same-length-2
 same-length-2 c = search needs
 
--- src/restoring.rt:27:9
 returns : tie.Need-returns
 returns c = of-sizes _ _ _ (not-true _ (c .before .is-sized .ensures) (c .if1 .taken))
 
--- src/restoring.rt:29:11
 examine-requires : tie.Need-examine-requires
 examine-requires c κs = search needs
 
--- src/restoring.rt:31:44
 enum-told : tie.Need-enum-told
 enum-told c = search needs
 
--- src/restoring.rt:31:13
 read-tables-requires : tie.Need-read-tables-requires
 read-tables-requires c κs =
     let e = c .before .before .before .before in
@@ -41,23 +34,18 @@ read-tables-requires c κs =
     let few = c .before .before .before .before .before .before .before .before .before .before .before .before .pre .1 in
     (sized-is _ _ fit, sound-walks _ _ (e .examine .ensures) few (c .before .before .enum-told .given .1))
 
--- src/restoring.rt:34:34
 enum-known-u : tie.Need-enum-known-u
 enum-known-u c = search needs
 
--- src/restoring.rt:35:38
 enum-told-2 : tie.Need-enum-told-2
 enum-told-2 c = search needs
 
--- src/restoring.rt:22:1
 same-length-3 : tie.Need-same-length-3
 same-length-3 c = search needs
 
--- src/restoring.rt:22:1
 same-length-4 : tie.Need-same-length-4
 same-length-4 c = search needs
 
--- src/restoring.rt:22:1
 returns-2 : tie.Need-returns-2
 returns-2 c =
     let e = c .before .before .before .before .before .before .before .before .before in
@@ -65,30 +53,24 @@ returns-2 c =
     ap (filled (checked 0 0 0)) (c .before .before .before .before .read-tables .ensures)
     ∙ of-done _ _ (e .examine .ensures) _ fit (c .before .before .before .before .before .before .before .enum-told .given .1)
 
--- src/restoring.rt:22:1
 same-length-5 : tie.Need-same-length-5
 same-length-5 c = search needs
 
--- src/restoring.rt:22:1
 same-length-6 : tie.Need-same-length-6
 same-length-6 c = search needs
 
--- src/restoring.rt:22:1
 returns-3 : tie.Need-returns-3
 returns-3 c =
     let e = c .before .before .before in
     let fit = not-false _ (e .before .before .is-sized .ensures) (e .before .if1 .left) in
     of-fault _ _ (e .examine .ensures) _ fit (c .before .u .given .1)
 
--- src/restoring.rt:22:1
 same-length-7 : tie.Need-same-length-7
 same-length-7 c = search needs
 
--- src/restoring.rt:22:1
 same-length-8 : tie.Need-same-length-8
 same-length-8 c = search needs
 
--- src/restoring.rt:22:1
 returns-4 : tie.Need-returns-4
 returns-4 c =
     let e = c .before .before in

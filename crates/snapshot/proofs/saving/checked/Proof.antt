@@ -6,17 +6,14 @@ use Rattle.snapshot.proofs.SaveLaws.{fits, put-no-room, put-room}
 use Rattle.snapshot.proofs.saving.checked.Statement.{statement}
 use Rattle.snapshot.proofs.saving.checked.Tie as tie
 
--- src/saving.rt:15:9
 image-length-requires : tie.Need-image-length-requires
 image-length-requires c κs =
     fits _ _ (c .before .before .before .pre) (λ i. c .before .before .shared-slice-known .given i .fits)
     (λ i. c .before .shared-slice-known2 .given i .fits)
 
--- src/saving.rt:17:9
 returns : tie.Need-returns
 returns c = put-no-room _ _ (omega (arith, c .before .image-length .ensures, c .if1 .taken))
 
--- src/saving.rt:19:5
 write-requires : tie.Need-write-requires
 write-requires c κs =
     let k = c .before .before .before in (
@@ -25,11 +22,9 @@ write-requires c κs =
       omega (arith, c .before .before .image-length .ensures, c .before .if1 .left),
     )
 
--- src/saving.rt:11:1
 same-length : tie.Need-same-length
 same-length c = search needs
 
--- src/saving.rt:11:1
 returns-2 : tie.Need-returns-2
 returns-2 c =
     let k = c .before .before .before .before .before in
