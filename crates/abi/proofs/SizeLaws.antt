@@ -18,11 +18,6 @@ module _ (n : ℕ) (size : Node 16 n) where
   pub square-le : n * n ≤ 256
   square-le = mul-le-mul (size .high) (size .high)
 
-  pub nodes-le : n * (3 + 7 * n) ≤ 1840
-  nodes-le =
-      let a : 3 + 7 * n ≤ 115 = omega (arith, size .high) in
-      mul-le-mul (size .high) a
-
   pub records-le : n * (64 + 96 * n) ≤ 25600
   records-le =
       let a : 64 + 96 * n ≤ 1600 = omega (arith, size .high) in

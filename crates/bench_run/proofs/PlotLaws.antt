@@ -1,7 +1,7 @@
 -- The whole listing: its four parts poured one behind the other, by the first line, and into the room that there is.
 -- Assumes nothing.
 use Prim.Native.Nat.{ℕ, suc, _+_, _*_, _≤_, _<_}
-use native.Mathlib.Nat.{zero-add, mul-le-mul}
+use native.Mathlib.Nat.{zero-add}
 use native.Mathlib.Omega.{arith}
 use mathlib.Core.Bool.{true, false, cond, _||_}
 use mathlib.Core.List.{List, [], _∷_, _++_}
@@ -20,6 +20,7 @@ use Rattle.protocol.specs.Network.{fresh}
 use Rattle.protocol.proofs.TestsLaws.{Choice, yes!, no!, choice}
 use Rattle.tables.specs.Load.{tablesOf}
 use Rattle.tables.specs.Tables.{Tables, tables, Sized}
+use Rattle.tables.proofs.Sizes.{rows-small, cells-small}
 use Rattle.text.specs.Text.{poured}
 use Rattle.text.proofs.TextLaws.{poured-all}
 use Rattle.bench_run.specs.Listing.{eventHead, stationHead, badPlot, eventLines, afterLines, stationLines, plotListing, headed, listing}
@@ -120,18 +121,12 @@ run-room input out after e h b = rw (e, b, poured-all out (listing input) (rw e 
 
 -- ---- sizes
 
-pub small-rows : (n : ℕ) → n ≤ 16 → n * (3 + 7 * n) ≤ 1840
-small-rows n h = let w : 3 + 7 * n ≤ 115 = omega arith in mul-le-mul h w
-
-pub small-cells : (n : ℕ) → n ≤ 16 → n * n * 65 ≤ 16640
-small-cells n h = omega (arith, mul-le-mul h h)
-
 -- parts of the room for sixteen nodes are tables of n
 pub part-sized : (n : ℕ) (ns cs : List ℕ) → 1 ≤ n → n ≤ 16 → length ns ≡ 1840 → length cs ≡ 16640
     → Sized n (tables (take (n * (3 + 7 * n)) ns) (take (n * n * 65) cs))
 part-sized n ns cs low few a b = record {
   low = low;
   few = few;
-  nodes = length-take-le (n * (3 + 7 * n)) ns (omega (arith, small-rows n few));
-  channels = length-take-le (n * n * 65) cs (omega (arith, small-cells n few));
+  nodes = length-take-le (n * (3 + 7 * n)) ns (omega (arith, rows-small n few));
+  channels = length-take-le (n * n * 65) cs (omega (arith, cells-small n few));
 }

@@ -1,7 +1,7 @@
 // The listing of an input: the plot that its first line names, or "bad plot".
 // Assumes the bounds that each `requires` states.
 ghost use mathlib.Core.Path.{_≡_};
-ghost use Prim.Native.Nat.{_+_, _*_, _^_, _≤_, _<_};
+ghost use Prim.Native.Nat.{_+_, _*_, _≤_, _<_};
 ghost use lib.ListN.{length, drop};
 ghost use Rattle.bench_run.specs.Listing.{plotListing, listing};
 ghost use Rattle.commands.specs.Commands.{linesOf};

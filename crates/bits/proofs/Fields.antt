@@ -56,6 +56,13 @@ Fitting [] vs = Unit
 Fitting (w ∷ ws) [] = Unit
 Fitting (w ∷ ws) (v ∷ vs) = (v < 2 ^ w) × Fitting ws vs
 
+pub fitting-append : (ws us vs xs : List ℕ) → length ws ≡ length vs → Fitting ws vs → Fitting us xs → Fitting (ws ++ us) (vs ++ xs)
+unfolding Fitting
+fitting-append [] us [] xs e f g = g
+fitting-append [] us (v ∷ vs) xs e f g = absurd (omega arith)
+fitting-append (w ∷ ws) us [] xs e f g = absurd (omega arith)
+fitting-append (w ∷ ws) us (v ∷ vs) xs e f g = (f .0, fitting-append ws us vs xs (omega arith) (f .1) g)
+
 -- what was spread is gathered again, whatever stands behind it
 pub gathered-spread : (ws vs rest : List ℕ) → length ws ≡ length vs → Fitting ws vs → gathered ws (spread ws vs ++ rest) ≡ vs
 unfolding gathered spread Fitting

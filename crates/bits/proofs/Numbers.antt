@@ -6,7 +6,7 @@ use native.Mathlib.Numerals.{one-add}
 use native.Mathlib.Omega.{arith}
 use mathlib.Core.Path.{_≡_, refl, sym, ap, ap₂, _∙_}
 use mathlib.Core.List.{List, [], _∷_, _++_}
-use lib.ListN.{length, take, drop, getD, set, length-append}
+use lib.ListN.{length, take, drop, getD, set, replicate, length-append}
 use lib.Seq.{take-at, drop-at, getD-drop}
 use lib.Pow.{pow-add, mod-pow-add, mod-mod-pow, shr-shr}
 use lib.Pow
@@ -86,6 +86,10 @@ below-take m (suc n) (x ∷ l) h b = below-cons m x (take n l) (b 0) (below-take
 
 pub below-drop : (m n : ℕ) (l : List ℕ) → Below m l → Below m (drop n l)
 below-drop m n l b i = rw getD-drop (b (n + i))
+
+pub below-zeros : (m k : ℕ) → 0 < m → Below m (replicate k 0)
+below-zeros m zero h = below-nil m h
+below-zeros m (suc k) h = below-cons m 0 (replicate k 0) h (below-zeros m k h)
 
 pub below-bits : (w v : ℕ) → Below 2 (bits w v)
 unfolding bits

@@ -2,7 +2,7 @@
 -- Assumes nothing.
 use Prim.Native.Nat.{ℕ, zero, suc, _<_}
 use native.Mathlib.Omega.{arith}
-use mathlib.Core.Bool.{Bool, true, false, not}
+use mathlib.Core.Bool.{Bool, true, false, not, Bool·not-not}
 use mathlib.Core.Path.{_≡_, refl, sym, ap, _∙_}
 use borrow.Author.Tests.{ltb-true, ltb-false, lt-ltb, le-ltb}
 use lib.Dec.{ltb}
@@ -35,10 +35,6 @@ ltb-suc a b = go (ltb b a) refl
     go true e = le-ltb a (suc b) (ltb-true b a e)
     go false e = let h = ltb-false b a e in lt-ltb a (suc b) (omega arith)
 
-not-not : (b : Bool) → not (not b) ≡ b
-not-not true = refl
-not-not false = refl
-
 -- x is below z + 1 exactly where z is not below x, and z - 1 below x exactly where x is not below z
 pub below-suc : (x z : ℤ) → ltZ x (sucℤ z) ≡ not (ltZ z x)
 below-suc (pos a) (pos b) = ltb-suc a b
@@ -46,8 +42,8 @@ below-suc (pos a) (negsuc zero) = le-ltb a 0 (omega arith)
 below-suc (pos a) (negsuc (suc b)) = refl
 below-suc (negsuc a) (pos b) = refl
 below-suc (negsuc a) (negsuc zero) = sym (ap not (le-ltb a 0 (omega arith)))
-below-suc (negsuc a) (negsuc (suc b)) = sym (ap not (ltb-suc a b) ∙ not-not (ltb b a))
+below-suc (negsuc a) (negsuc (suc b)) = sym (ap not (ltb-suc a b) ∙ Bool·not-not (ltb b a))
 
 pub pred-below : (x z : ℤ) → ltZ (predℤ z) x ≡ not (ltZ x z)
 pred-below x z =
-    sym (not-not (ltZ (predℤ z) x)) ∙ ap not (sym (below-suc x (predℤ z)) ∙ ap (ltZ x) (suc-pred z))
+    sym (Bool·not-not (ltZ (predℤ z) x)) ∙ ap not (sym (below-suc x (predℤ z)) ∙ ap (ltZ x) (suc-pred z))

@@ -6,7 +6,7 @@ use mathlib.Core.List.{List}
 use lib.IntN.{pos}
 use Rattle.height.specs.Words.{Negated}
 use Rattle.height.specs.declared.Height.{Height}
-use Rattle.nodeset.specs.NodeSet.{member, setOf}
+use Rattle.nodeset.specs.NodeSet.{member}
 use Rattle.protocol.specs.Functions.{update}
 use Rattle.protocol.specs.Refusal.{tooDeep}
 use Rattle.protocol.specs.Step.{heightAfter, sends}

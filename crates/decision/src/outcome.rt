@@ -1,9 +1,9 @@
 // What a rule does: the height it leaves, and the set it sends to.
 // Assumes the bounds that each `requires` states.
 ghost use mathlib.Core.Path.{_≡_};
-ghost use mathlib.Core.Bool.{true, false};
+ghost use mathlib.Core.Bool.{true};
 ghost use Prim.Native.Nat.{_≤_};
-ghost use lib.IntN.{ℤ, sucℤ, predℤ};
+ghost use lib.IntN.{sucℤ, predℤ};
 ghost use lib.ListN.{length};
 ghost use lib.Signed.{ltZ};
 ghost use Rattle.height.specs.Words.{Negated};

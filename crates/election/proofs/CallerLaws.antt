@@ -1,9 +1,8 @@
 -- For any tables of 32-bit words (`Words`, which a slice shows of itself): a refused call changes no word, and an event only
 -- its node's row, the channels from it and the one received from. Assumes nothing else.
-use Prim.Native.Nat.{ℕ, zero, suc, _≤_}
-use native.Mathlib.Omega.{arith}
-use mathlib.Core.Bool.{Bool, true, false, cond}
-use mathlib.Core.List.{List, tail}
+use Prim.Native.Nat.{ℕ}
+use mathlib.Core.Bool.{true, false, cond}
+use mathlib.Core.List.{tail}
 use mathlib.Core.Path.{_≡_, refl, sym, ap, _∙_}
 use lib.Dec.{eqb}
 use borrow.Author.Tests.{eqb-true, eq-eqb}
@@ -14,24 +13,23 @@ use Rattle.nodeset.specs.NodeSet.{setOf}
 use Rattle.protocol.specs.Answer.{saidRule, saidRefused}
 use Rattle.protocol.specs.Component.{Node}
 use Rattle.protocol.specs.History.{isReceipt}
-use Rattle.protocol.specs.Network.{Message, Network}
+use Rattle.protocol.specs.Network.{Network}
 use Rattle.protocol.specs.Refusal.{returned, accepts, answer, next}
 use Rattle.protocol.specs.Step.{Event, receive, home, local}
 use Rattle.protocol.specs.declared.Rule.{Rule}
 use Rattle.protocol.specs.declared.Rule.the-variants.{ChannelUp, ElectSelf, StartNewRefLevel, NoChange, Ignored}
 use Rattle.protocol.specs.declared.Rule.the-variants.{ReflectRefLevel, PropagateLargestRefLevel, AdoptLpIfPriority, Reply}
-use Rattle.protocol.proofs.Accepted.{Accepted, home-node, peer-node}
+use Rattle.protocol.proofs.Accepted.{home-node, peer-node}
 use Rattle.protocol.proofs.Good.{accepts-accepted}
-use Rattle.protocol.proofs.Locality.{SameRecord, other-records, other-channels, received-channel}
+use Rattle.protocol.proofs.Locality.{other-records, other-channels, received-channel}
 use Rattle.protocol.proofs.TestsLaws.{Choice, yes!, no!, choice}
 use Rattle.tables.specs.Cell.{queue, cellWords}
 use Rattle.tables.specs.Fit.{TablesFit}
 use Rattle.tables.specs.Load.{load, tablesOf}
-use Rattle.tables.specs.Row.{nodeWords}
 use Rattle.tables.specs.Tables.{Tables, nodeOf, channelOf}
 use Rattle.tables.proofs.Back.{node-of, cell-of}
 use Rattle.tables.proofs.TablesLaws.{load-channel, tables-back}
-use Rattle.election.specs.StepOn.{Outcome, outcome, stepAt, stepChecked, stepOn}
+use Rattle.election.specs.StepOn.{outcome, stepAt, stepChecked, stepOn}
 
 rule-accepted : (r : Rule) (s : ℕ) → saidRule r s .number ≡ 0
 rule-accepted ChannelUp s = refl

@@ -1,29 +1,27 @@
 -- The cells before and after an event sends, and the channels that they load to: protocol's `cleared` and the posts of `commit`.
 -- Assumes that the tables fit.
-use Prim.Native.Nat.{ℕ, _*_, _<_, _≤_}
-use native.Mathlib.Omega.{arith}
-use mathlib.Core.Bool.{Bool, true, false, cond, _&&_, and-false}
-use mathlib.Core.List.{List, [], _∷_, _++_, tail}
+use Prim.Native.Nat.{ℕ, _<_}
+use mathlib.Core.Bool.{true, false, cond, _&&_, and-false}
+use mathlib.Core.List.{List, [], tail}
 use mathlib.Core.Logic.{_⊎_, inl, inr}
 use mathlib.Core.Path.{_≡_, refl, sym, ap, _∙_}
 use lib.Dec.{eqb}
-use lib.ListN.{length}
 use borrow.Author.Tests.{eq-eqb, ne-eqb}
 use Rattle.height.specs.declared.Height.{Height}
 use Rattle.height.proofs.OrderLaws.{clash, not-true-is-false}
 use Rattle.nodeset.specs.NodeSet.{member}
 use Rattle.protocol.specs.Component.{Node}
 use Rattle.protocol.specs.Functions.{update}
-use Rattle.protocol.specs.Network.{Message, Network, isNode, fresh, atPairs}
-use Rattle.protocol.specs.Step.{Event, up, down, receive, cleared, post}
-use Rattle.protocol.proofs.TestsLaws.{Choice, yes!, no!, choice, equal?, update-at, update-off}
+use Rattle.protocol.specs.Network.{Message, isNode, fresh, atPairs}
+use Rattle.protocol.specs.Step.{cleared, post}
+use Rattle.protocol.proofs.TestsLaws.{Choice, yes!, no!, choice, equal?, node-passes, update-at, update-off}
 use Rattle.tables.specs.Cell.{count, queue, appended, taken, emptied}
-use Rattle.tables.specs.Fit.{CellFits, TablesFit}
+use Rattle.tables.specs.Fit.{CellFits}
 use Rattle.tables.specs.Load.{load, messagesOn}
 use Rattle.tables.specs.Tables.{Tables, tables, channelOf}
 use Rattle.tables.proofs.CellLaws.{queue-appended, appended-fits, queue-taken, taken-fits, queue-emptied, emptied-fits}
 use Rattle.tables.proofs.ChangeLaws.{changed-pairs}
-use Rattle.tables.proofs.TablesLaws.{is-node, load-channel}
+use Rattle.tables.proofs.TablesLaws.{load-channel}
 use Rattle.tables.proofs.Wordy.{Wordy}
 use Rattle.election.specs.Cells.{CellsAre, Takes, clearedCells, sentCells}
 use Rattle.election.specs.Finish.{Between, eventOf}
@@ -35,7 +33,7 @@ stamped h clock = record { height = h; timestamp = clock }
 
 -- a number that is no node is neither of the two
 not-node : (n u z : ℕ) → Node n u → isNode n z ≡ false → z ≡ u → ⊥
-not-node n u z a o e = clash (is-node n u a) (rw e at o)
+not-node n u z a o e = clash (node-passes n u a) (rw e at o)
 
 module _ (n : ℕ) (t : Tables) (u v : ℕ) (b : Between n t u v) where
   -- ---- the cells before anything is sent
@@ -67,7 +65,7 @@ module _ (n : ℕ) (t : Tables) (u v : ℕ) (b : Between n t u v) where
       (update (load n t .channel u) v [])
       (λ y z c d e. rw (ne-eqb y u e))
       (λ z d. at z d (equal? z v))
-      (λ z o. rw (update-off (load n t .channel u) v [] z (not-node n v z (b .other) o), is-node n u (b .node), o))
+      (λ z o. rw (update-off (load n t .channel u) v [] z (not-node n v z (b .other) o), node-passes n u (b .node), o))
     where
       at : (z : ℕ) → Node n z → (z ≡ v) ⊎ (z ≡ v → ⊥)
           → queue (cond (eqb u u && eqb z v) emptied (channelOf n u z (t .channels))) ≡ update (load n t .channel u) v [] z
@@ -78,7 +76,7 @@ module _ (n : ℕ) (t : Tables) (u v : ℕ) (b : Between n t u v) where
       (update (load n t .channel v) u (tail (load n t .channel v u)))
       (λ y z c d e. rw (ne-eqb y v e))
       (λ z d. at z d (equal? z u))
-      (λ z o. rw (update-off (load n t .channel v) u (tail (load n t .channel v u)) z (not-node n u z (b .node) o), is-node n v (b .other), o))
+      (λ z o. rw (update-off (load n t .channel v) u (tail (load n t .channel v u)) z (not-node n u z (b .node) o), node-passes n v (b .other), o))
     where
       q : List Message
       q = load n t .channel v u
@@ -98,11 +96,11 @@ module _ (n : ℕ) (t : Tables) (u v : ℕ) (b : Between n t u v) where
   pub cleared-at : (kind : Kind) → Takes kind n u v (t .channels) → (y : ℕ) → Node n y
       → cleared (load n t) (eventOf kind u v) u y ≡ queue (clearedCells kind n u v (t .channels) u y)
   cleared-at kind takes y d =
-      ap (λ (f : ℕ → ℕ → List Message). f u y) (sym (cleared-loads kind takes)) ∙ rw (is-node n u (b .node), is-node n y d)
+      ap (λ (f : ℕ → ℕ → List Message). f u y) (sym (cleared-loads kind takes)) ∙ rw (node-passes n u (b .node), node-passes n y d)
 
   cleared-out : (kind : Kind) → Takes kind n u v (t .channels) → (y : ℕ) → isNode n y ≡ false → cleared (load n t) (eventOf kind u v) u y ≡ []
   cleared-out kind takes y o =
-      ap (λ (f : ℕ → ℕ → List Message). f u y) (sym (cleared-loads kind takes)) ∙ rw (is-node n u (b .node), o)
+      ap (λ (f : ℕ → ℕ → List Message). f u y) (sym (cleared-loads kind takes)) ∙ rw (node-passes n u (b .node), o)
 
   -- ---- the cells after the height went to the set s
 
@@ -130,7 +128,7 @@ module _ (n : ℕ) (t : Tables) (u v : ℕ) (b : Between n t u v) where
         go (inl e) (no! q) = rw (e, here y d, q) (cleared-fits kind takes u y (b .node) d)
 
     silent-out : (y : ℕ) → isNode n y ≡ false → member s y ≡ false
-    silent-out y o = not-true-is-false (member s y) (λ e. clash (is-node n y (only y e)) o)
+    silent-out y o = not-true-is-false (member s y) (λ e. clash (node-passes n y (only y e)) o)
 
     pub sent-loads : load n (tables ns cs) .channel
         ≡ update (cleared (load n t) (eventOf kind u v)) u (λ y. post (member s y) (stamped own clock) (cleared (load n t) (eventOf kind u v) u y))

@@ -1,32 +1,31 @@
 -- What an event writes is the tables of the network committed: one law for the three kinds of event.
 -- Assumes sound tables, two different nodes, and what the event found (`Between`, `Takes`).
-use Prim.Native.Nat.{ℕ, _*_, _^_, _<_, _≤_}
-use native.Mathlib.Omega.{arith}
-use mathlib.Core.Bool.{Bool, true, false}
+use Prim.Native.Nat.{ℕ, _^_, _<_, _≤_}
+use mathlib.Core.Bool.{Bool, true}
 use mathlib.Core.List.{List}
 use mathlib.Core.Logic.{_⊎_, inl, inr}
-use mathlib.Core.Path.{_≡_, refl, sym, ap, _∙_, subst}
+use mathlib.Core.Path.{_≡_, sym, ap, _∙_}
 use lib.ListN.{length}
 use Rattle.decision.specs.After.{seen, sendsTo}
 use Rattle.height.specs.declared.Height.{Height}
 use Rattle.nodeset.specs.NodeSet.{member, setOf}
 use Rattle.protocol.specs.Component.{Node}
 use Rattle.protocol.specs.Functions.{update}
-use Rattle.protocol.specs.Network.{Message, Network, fresh}
+use Rattle.protocol.specs.Network.{fresh}
 use Rattle.protocol.specs.Step.{Local, carried, heightAfter, cleared, commit, post}
 use Rattle.protocol.specs.declared.Rule.{Rule}
 use Rattle.protocol.proofs.TestsLaws.{equal?, update-at}
 use Rattle.tables.specs.Cell.{count}
-use Rattle.tables.specs.Fit.{RowFits, CellFits, TablesFit}
+use Rattle.tables.specs.Fit.{RowFits, TablesFit}
 use Rattle.tables.specs.Load.{load, tablesOf, clockAt, neighborsAt, formingAt, heightsAt}
 use Rattle.tables.specs.Row.{clockIn, neighborsIn, formingIn, heightIn, rowWith}
-use Rattle.tables.specs.Tables.{Tables, tables, Sized, nodeOf, putNode, channelOf}
+use Rattle.tables.specs.Tables.{Tables, nodeOf}
 use Rattle.tables.proofs.ChangeLaws.{changed-nodes}
 use Rattle.tables.proofs.RowLaws.{RowAfter, row-after}
 use Rattle.tables.proofs.RowsLaws.{node-put, node-other, node-put-length}
 use Rattle.tables.proofs.TablesLaws.{tables-back}
 use Rattle.tables.proofs.Wordy.{Wordy}
-use Rattle.election.specs.Cells.{CellsAre, Takes, clearedCells, sentCells}
+use Rattle.election.specs.Cells.{Takes, clearedCells}
 use Rattle.election.specs.Finish.{Between, eventOf, localOf}
 use Rattle.election.specs.Written.{Written}
 use Rattle.election.specs.declared.Kind.{Kind}

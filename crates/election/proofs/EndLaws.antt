@@ -32,10 +32,10 @@ use Rattle.tables.specs.Tables.{Tables, nodeOf, channelOf}
 use Rattle.election.specs.Finish.{Between, Ignores, Hears, Chosen, localOf, finished}
 use Rattle.election.specs.StepOn.{outcome, stepAt}
 use Rattle.election.specs.declared.Kind.the-variants.{Raised, Dropped, Received}
-use Rattle.election.proofs.EventLaws.{joined, without, between-named, misnamed-up, misnamed-down, misnamed-receive, up-is}
+use Rattle.election.proofs.EventLaws.{between-named, misnamed-up, misnamed-down, misnamed-receive, up-is}
 use Rattle.election.proofs.EventLaws.{local-up, local-down, down-quiet, receive-unfit, receive-fit, local-ignored, local-heard}
 use Rattle.election.proofs.EventLaws.{late-past, late-not}
-use Rattle.election.proofs.SetChanges.{insert-lt, remove-lt}
+use Rattle.election.proofs.SetChanges.{joined, without, insert-lt, remove-lt}
 use Rattle.election.proofs.StepLaws.{step-unfit, step-late, step-finished, moved-to, moved-end}
 
 -- ---- the clock, as `Time::after` answers it

@@ -1,24 +1,23 @@
 -- Each event at its node, read off u's row: the sets as words, the view of v, the moved clock and the rule.
 -- Assumes sound tables and two different nodes (`Between`).
-use Prim.Native.Nat.{ℕ, zero, suc, max, _+_, _^_, _<_, _≤_}
+use Prim.Native.Nat.{ℕ, zero, suc, max, _+_, _<_, _≤_}
 use native.Mathlib.Omega.{arith}
-use mathlib.Core.Bool.{Bool, true, false, not, cond, _&&_, _||_}
-use mathlib.Core.List.{List, [], _∷_}
+use mathlib.Core.Bool.{Bool, true, false, not, _&&_, _||_}
+use mathlib.Core.List.{List, _∷_}
 use mathlib.Core.Path.{_≡_, refl, sym, ap, _∙_}
-use lib.Dec.{eqb, leb, ltb}
-use borrow.Author.Tests.{eq-eqb, ne-eqb, le-leb, lt-ltb, le-ltb, not-true, leb-true, eqb-false}
-use Rattle.decision.specs.After.{seen, sendsTo, AdoptsNode}
+use lib.Dec.{eqb, leb}
+use borrow.Author.Tests.{ne-eqb, le-leb, lt-ltb, le-ltb, not-true, leb-true, eqb-false}
+use Rattle.decision.specs.After.{seen, sendsTo}
 use Rattle.height.specs.Clock.{lastTime}
 use Rattle.height.specs.Height.{zeroHeight}
 use Rattle.height.specs.declared.Height.{Height}
-use Rattle.nodeset.specs.NodeSet.{member, setOf, sameNode, inEither, inButNot}
-use Rattle.protocol.specs.Component.{Node}
+use Rattle.nodeset.specs.NodeSet.{member}
 use Rattle.protocol.specs.Functions.{update}
 use Rattle.protocol.specs.Holds.{isEmpty}
-use Rattle.protocol.specs.Network.{Message, Network, isNode, upTo}
+use Rattle.protocol.specs.Network.{Message, isNode, upTo}
 use Rattle.protocol.specs.Refusal.{misnamed, unfit, late}
 use Rattle.protocol.specs.Rules.{downRule, receiptRule}
-use Rattle.protocol.specs.Step.{Event, up, down, receive, Local, local, localUp, localDown, localIgnored, localTaken, localReceipt, carried, sends}
+use Rattle.protocol.specs.Step.{up, down, receive, local, localUp, localDown, localIgnored, localTaken, localReceipt, carried}
 use Rattle.protocol.specs.declared.Rule.{Rule}
 use Rattle.protocol.specs.declared.Rule.the-variants.{ChannelUp, Ignored}
 use Rattle.protocol.proofs.Kept.{down-silent}
@@ -30,15 +29,7 @@ use Rattle.tables.specs.Row.{clockIn, neighborsIn, formingIn, heightIn}
 use Rattle.tables.specs.Tables.{Tables, nodeOf, channelOf}
 use Rattle.tables.proofs.TablesLaws.{load-clock, load-neighbors, load-forming, load-height, load-channel}
 use Rattle.election.specs.Finish.{Between, named, localOf}
-use Rattle.election.proofs.SetChanges.{insert-members, remove-members}
-
--- ---- the sets as the code makes them
-
-abbrev pub joined : ℕ → ℕ → ℕ
-joined s v = setOf 16 (inEither (member s) (sameNode v))
-
-abbrev pub without : ℕ → ℕ → ℕ
-without s v = setOf 16 (inButNot (member s) (sameNode v))
+use Rattle.election.proofs.SetChanges.{joined, without, insert-members, remove-members}
 
 -- ---- refusal 3
 

@@ -1,20 +1,17 @@
 -- Lists of event calls from `fresh`, each call with its own n: the tables say and hold what the meaning says and holds,
 -- so what `protocol` proves of grown networks holds for tables. Assumes 1 to 16 nodes.
-use Prim.Native.Nat.{ℕ, zero, suc, _+_, _-_, _*_, _<_, _≤_}
+use Prim.Native.Nat.{ℕ, suc, _+_, _-_, _*_, _<_, _≤_}
 use native.Mathlib.Omega.{arith}
-use mathlib.Core.Bool.{Bool, true, false, cond, _&&_, and-false}
+use mathlib.Core.Bool.{Bool, true, false, and-false}
 use mathlib.Core.List.{List, [], _∷_}
 use mathlib.Core.Logic.{_⊎_, inl, inr}
-use mathlib.Core.Path.{_≡_, refl, sym, ap, _∙_}
-use lib.Dec.{eqb, leb, ltb}
-use lib.ListN.{length}
-use borrow.Author.Tests.{eqb-true, eq-eqb, ne-eqb, ltb-true, ltb-false}
-use Rattle.network.specs.Check.{checked, checkOn}
+use mathlib.Core.Path.{_≡_, refl, sym}
+use lib.Dec.{eqb, ltb}
+use borrow.Author.Tests.{eq-eqb, ne-eqb, ltb-true, ltb-false}
 use Rattle.network.proofs.CheckLaws.{check-sizes}
 use Rattle.network.proofs.SoundNetworks.{sound-check}
-use Rattle.protocol.specs.Answer.{Said, saidRefused}
+use Rattle.protocol.specs.Answer.{saidRefused}
 use Rattle.protocol.specs.History.{State, started, advance}
-use Rattle.protocol.specs.Network.{Network, fresh}
 use Rattle.protocol.specs.Refusal.{answer, next}
 use Rattle.protocol.specs.Step.{Event}
 use Rattle.protocol.proofs.Good.{Good, good-started, good-advance}
@@ -24,10 +21,10 @@ use Rattle.protocol.proofs.Runs.{Promise, good-promise}
 use Rattle.protocol.proofs.TestsLaws.{equal?}
 use Rattle.protocol.proofs.Theorems.{Steady, good-steady}
 use Rattle.tables.specs.Load.{load, tablesOf}
-use Rattle.tables.specs.Tables.{Tables, Sized, sized, width}
+use Rattle.tables.specs.Tables.{sized, width}
 use Rattle.tables.proofs.Back.{Storable, storable, load-back, tables-sized}
 use Rattle.election.specs.RunOn.{EventCall, tablesAfter, saidByTables, called, saidTo, stateAfter, saidByMeaning}
-use Rattle.election.specs.StepOn.{Outcome, outcome, stepAt, stepChecked, stepOn}
+use Rattle.election.specs.StepOn.{outcome, stepAt, stepChecked, stepOn}
 
 -- tables of n nodes are tables of no other number of nodes
 grows : (n k : ℕ) → n * (3 + 7 * n) < (n + suc k) * (3 + 7 * (n + suc k))

@@ -1,11 +1,11 @@
 -- What the functions of `sending` leave: lengths of cells, one changed cell, room for a message, and the loop that sends to a set.
 -- Assumes nothing.
-use Prim.Native.Nat.{ℕ, zero, suc, _-_, _*_, _^_, _<_, _≤_}
+use Prim.Native.Nat.{ℕ, _*_, _^_, _<_, _≤_}
 use native.Mathlib.Omega.{arith}
-use mathlib.Core.Bool.{Bool, true, false, cond, _&&_, and-true, and-false}
+use mathlib.Core.Bool.{true, false, cond, _&&_, and-true, and-false}
 use mathlib.Core.List.{List}
 use mathlib.Core.Logic.{inl, inr}
-use mathlib.Core.Path.{_≡_, refl, sym, ap, _∙_}
+use mathlib.Core.Path.{_≡_, refl, sym, _∙_}
 use lib.Dec.{eqb}
 use lib.ListN.{length, drop, replicate, length-set, length-append, length-drop, length-replicate}
 use lib.Pow.{pow-mono}
@@ -13,7 +13,7 @@ use borrow.Author.Tests.{ltb-true, eq-eqb, ne-eqb}
 use Rattle.height.specs.declared.Height.{Height}
 use Rattle.height.proofs.OrderLaws.{clash}
 use Rattle.height.proofs.WordsLaws.{stored-length}
-use Rattle.nodeset.specs.NodeSet.{member, setOf, sameNode, inButNot, lowest}
+use Rattle.nodeset.specs.NodeSet.{member, sameNode, inButNot, lowest}
 use Rattle.nodeset.proofs.Members.{none-in-zero, member-range}
 use Rattle.nodeset.proofs.Walk.{LowestNode, lowest-in, member-without, without-less}
 use Rattle.protocol.specs.Component.{Node}
@@ -25,6 +25,7 @@ use Rattle.tables.proofs.RowsLaws.{channel-length, channel-put, channel-put-len
 use Rattle.election.specs.Cells.{CellsAre, Takes, cellsOf, clearedCells, sentCells, roomFor}
 use Rattle.election.specs.declared.Kind.{Kind}
 use Rattle.election.specs.declared.Kind.the-variants.{Raised, Dropped, Received}
+use Rattle.election.proofs.SetChanges.{without}
 
 -- ---- lengths of cells
 
@@ -104,10 +105,7 @@ sending-start n u to h t cs size within room = record {
   same = λ x y nx ny. refl;
 }
 
--- s without k
-abbrev pub without : ℕ → ℕ → ℕ
-without s k = setOf 16 (inButNot (member s) (sameNode k))
-
+-- s without k, at k and elsewhere
 module _ (s k : ℕ) (few : s < 2 ^ 16) where
   without-same : member (without s k) k ≡ false
   unfolding inButNot sameNode

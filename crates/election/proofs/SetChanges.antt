@@ -1,24 +1,29 @@
 -- Sets as words and as tests: a node joins or leaves, and the set that a rule sends to.
 -- Assumes that the sets are within n, n at most 16.
-use Prim.Native.Nat.{ℕ, zero, suc, _^_, _<_, _≤_}
+use Prim.Native.Nat.{ℕ, _^_, _<_, _≤_}
 use native.Mathlib.Omega.{arith}
-use mathlib.Core.Bool.{Bool, true, false, not, cond, _&&_, _||_, or-true, and-true, and-false, or-false}
+use mathlib.Core.Bool.{Bool, true, false, not, _&&_, _||_, or-true, and-true, and-false, or-false}
 use mathlib.Core.Logic.{_⊎_, inl, inr}
-use mathlib.Core.Path.{_≡_, refl, sym, ap, _∙_, fun-ext}
+use mathlib.Core.Path.{_≡_, refl, _∙_, fun-ext}
 use lib.Dec.{eqb}
-use lib.Pow.{pow-mono}
 use borrow.Author.Tests.{eq-eqb, ne-eqb, eqb-true}
 use Rattle.decision.specs.After.{sendsTo}
-use Rattle.height.proofs.OrderLaws.{clash, not-true-is-false}
+use Rattle.height.proofs.OrderLaws.{not-true-is-false}
 use Rattle.nodeset.specs.NodeSet.{member, setOf, sameNode, inEither, inButNot}
 use Rattle.nodeset.proofs.Members.{member-setOf-all, setOf-within, setOf-more}
 use Rattle.protocol.specs.Component.{Node}
 use Rattle.protocol.specs.Functions.{update}
-use Rattle.protocol.specs.Step.{sends}
 use Rattle.protocol.specs.declared.Rule.{Rule}
 use Rattle.protocol.proofs.Soundness.{sends-in, either}
-use Rattle.protocol.proofs.TestsLaws.{equal?, update-at, update-off}
+use Rattle.protocol.proofs.TestsLaws.{equal?, and-left, update-at, update-off}
 pub use Rattle.tables.proofs.TablesLaws.{member-node}
+
+-- a set with v, and without v, as the code makes them
+abbrev pub joined : ℕ → ℕ → ℕ
+joined s v = setOf 16 (inEither (member s) (sameNode v))
+
+abbrev pub without : ℕ → ℕ → ℕ
+without s v = setOf 16 (inButNot (member s) (sameNode v))
 
 -- a set of nodes 1 to n, read at any number
 module _ (n : ℕ) (few : n ≤ 16) (f : ℕ → Bool) (only : (k : ℕ) → f k ≡ true → Node n k) where
@@ -39,9 +44,6 @@ module _ (n : ℕ) (few : n ≤ 16) (f : ℕ → Bool) (only : (k : ℕ) → f k
 
 module _ (n : ℕ) (few : n ≤ 16) (s : ℕ) (h : s < 2 ^ n) (v : ℕ) (b : Node n v) where
   -- v joins
-  joined : ℕ → Bool
-  joined = inEither (member s) (sameNode v)
-
   joined-is : inEither (member s) (sameNode v) ≡ update (member s) v true
   unfolding inEither sameNode
   joined-is = fun-ext λ k. go k (equal? k v)
@@ -54,10 +56,10 @@ module _ (n : ℕ) (few : n ≤ 16) (s : ℕ) (h : s < 2 ^ n) (v : ℕ) (b : Nod
   unfolding inEither sameNode
   joined-node k e = either (member s k) (eqb k v) e (member-node n s h k) (λ q. rw (eqb-true k v q) b)
 
-  pub insert-members : member (setOf 16 (inEither (member s) (sameNode v))) ≡ update (member s) v true
+  pub insert-members : member (joined s v) ≡ update (member s) v true
   insert-members = members-are n few (inEither (member s) (sameNode v)) joined-node ∙ joined-is
 
-  pub insert-lt : setOf 16 (inEither (member s) (sameNode v)) < 2 ^ n
+  pub insert-lt : joined s v < 2 ^ n
   insert-lt = set-lt n few (inEither (member s) (sameNode v)) joined-node
 
   -- v leaves
@@ -71,16 +73,12 @@ module _ (n : ℕ) (few : n ≤ 16) (s : ℕ) (h : s < 2 ^ n) (v : ℕ) (b : Nod
 
   left-node : (k : ℕ) → inButNot (member s) (sameNode v) k ≡ true → Node n k
   unfolding inButNot
-  left-node k e = member-node n s h k (first (member s k) (not (sameNode v k)) e)
-    where
-      first : (a b : Bool) → (a && b) ≡ true → a ≡ true
-      first true b e = refl
-      first false b e = e
+  left-node k e = member-node n s h k (and-left (member s k) (not (sameNode v k)) e)
 
-  pub remove-members : member (setOf 16 (inButNot (member s) (sameNode v))) ≡ update (member s) v false
+  pub remove-members : member (without s v) ≡ update (member s) v false
   remove-members = members-are n few (inButNot (member s) (sameNode v)) left-node ∙ left-is
 
-  pub remove-lt : setOf 16 (inButNot (member s) (sameNode v)) < 2 ^ n
+  pub remove-lt : without s v < 2 ^ n
   remove-lt = set-lt n few (inButNot (member s) (sameNode v)) left-node
 
 -- the set that a rule sends to

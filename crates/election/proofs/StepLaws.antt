@@ -1,27 +1,25 @@
 -- The order of an event's refusals on sound tables: each test that fails gives its number and leaves the tables; the rest is `finished`.
 -- Assumes that the tables fit.
-use Prim.Native.Nat.{ℕ, zero, suc, max, _<_, _≤_}
+use Prim.Native.Nat.{ℕ, suc, max, _≤_}
 use native.Mathlib.Omega.{arith}
-use mathlib.Core.Bool.{Bool, true, false, cond}
-use mathlib.Core.Path.{_≡_, refl, sym, ap, _∙_}
-use lib.Dec.{eqb, ltb}
-use borrow.Author.Tests.{ne-eqb, lt-ltb, le-ltb, ltb-true, ltb-false}
+use mathlib.Core.Bool.{true, false, cond}
+use mathlib.Core.Path.{_≡_, sym, ap, _∙_}
+use lib.Dec.{ltb}
+use borrow.Author.Tests.{ne-eqb, ltb-true, ltb-false}
 use Rattle.height.specs.Clock.{lastTime, SaidMoved, saidMoved, clockAfter}
-use Rattle.height.specs.declared.Moved.{Moved}
 use Rattle.height.specs.declared.Moved.the-variants.{To, AtEnd}
 use Rattle.height.specs.declared.Time.{Time}
 use Rattle.height.proofs.Moves.{clock-moved, clock-moves}
-use Rattle.protocol.specs.Answer.{Said, saidRefused}
-use Rattle.protocol.specs.Network.{Network}
+use Rattle.protocol.specs.Answer.{saidRefused}
 use Rattle.protocol.specs.Refusal.{misnamed, unfit, unfitNumber, late, tooDeep, crowded, returned, accepts, answer, next}
-use Rattle.protocol.specs.Step.{Event, up, down, receive, home, Local, local, cleared, step}
+use Rattle.protocol.specs.Step.{Event, home, local, cleared, step}
 use Rattle.protocol.proofs.TestsLaws.{Choice, yes!, no!, choice}
 use Rattle.tables.specs.Fit.{TablesFit}
-use Rattle.tables.specs.Load.{load, tablesOf}
+use Rattle.tables.specs.Load.{load}
 use Rattle.tables.specs.Tables.{Tables}
 use Rattle.tables.proofs.TablesLaws.{tables-back}
 use Rattle.election.specs.Finish.{finished}
-use Rattle.election.specs.StepOn.{Outcome, outcome, stepAt}
+use Rattle.election.specs.StepOn.{outcome, stepAt}
 
 module _ (n : ℕ) (t : Tables) (fit : TablesFit n t) (e : Event) where
   -- a refused event leaves the tables

@@ -1,20 +1,18 @@
 -- What writing an event leaves: room after the event cleared a channel, and the cells after it sent.
 -- Assumes nothing.
-use Prim.Native.Nat.{ℕ, _*_, _≤_}
-use native.Mathlib.Omega.{arith}
-use mathlib.Core.Bool.{Bool, true, false, not, cond, _&&_, _||_, and-false}
+use Prim.Native.Nat.{ℕ}
+use mathlib.Core.Bool.{true, not, _||_, and-false}
 use mathlib.Core.List.{List}
 use mathlib.Core.Logic.{_⊎_, inl, inr}
-use mathlib.Core.Path.{_≡_, refl, sym, ap, _∙_}
-use lib.Dec.{eqb, ltb}
-use lib.ListN.{length}
+use mathlib.Core.Path.{_≡_, _∙_}
+use lib.Dec.{ltb}
 use borrow.Author.Tests.{ne-eqb}
 use Rattle.height.specs.declared.Height.{Height}
 use Rattle.nodeset.specs.NodeSet.{member}
 use Rattle.protocol.specs.Component.{Node}
 use Rattle.protocol.specs.Functions.{every}
 use Rattle.protocol.proofs.TestsLaws.{equal?, every-at, every-all}
-use Rattle.tables.specs.Cell.{count, appended}
+use Rattle.tables.specs.Cell.{count}
 use Rattle.tables.specs.Tables.{channelOf}
 use Rattle.election.specs.Cells.{CellsAre, cellsOf, Silenced, clearedCells, sentCells, roomFor}
 use Rattle.election.specs.declared.Kind.{Kind}

@@ -1,7 +1,7 @@
 -- An event on lent tables: what it answers and what both tables are afterwards, by the meaning alone.
 -- Document 01, "Returned numbers": 1, 2, then 3 to 9 of the loaded network; a refused call leaves the tables as they were.
 use Prim.Native.Nat.{ℕ}
-use mathlib.Core.Bool.{Bool, cond}
+use mathlib.Core.Bool.{cond}
 use lib.Dec.{eqb}
 use Rattle.network.specs.Check.{SaidCheck, checkOn}
 use Rattle.protocol.specs.Answer.{Said, saidRefused}

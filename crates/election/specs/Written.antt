@@ -1,13 +1,11 @@
 -- What writing an event needs, and what the tables are after it: u's row and the cells. For the proof.
 -- Assumes nothing: these are definitions.
 use Prim.Native.Nat.{ℕ, _<_, _^_}
-use mathlib.Core.Bool.{Bool, true}
-use mathlib.Core.List.{List}
+use mathlib.Core.Bool.{true}
 use mathlib.Core.Path.{_≡_}
 use lib.Signed.{mag}
 use Rattle.height.specs.Words.{Negated}
 use Rattle.height.specs.declared.Height.{Height}
-use Rattle.nodeset.specs.NodeSet.{member}
 use Rattle.protocol.specs.Component.{Node}
 use Rattle.protocol.specs.Functions.{every}
 use Rattle.tables.specs.Row.{rowWith}

@@ -2,16 +2,12 @@
 // Assumes the bounds that each `requires` states.
 ghost use mathlib.Core.Path.{_≡_};
 ghost use mathlib.Core.Bool.{_||_};
-ghost use Prim.Native.Nat.{_≤_, _<_};
-ghost use lib.ListN.{length};
 ghost use Rattle.height.specs.Height.{zeroHeight};
 ghost use Rattle.height.specs.Words.{Negated};
 ghost use Rattle.nodeset.specs.NodeSet.{member};
 ghost use Rattle.protocol.specs.Answer.{said};
-ghost use Rattle.protocol.specs.Refusal.{misnamed};
 ghost use Rattle.protocol.specs.Step.{up, down, receive};
 ghost use Rattle.tables.specs.Fit.{TablesFit};
-ghost use Rattle.tables.specs.Row.{neighborsIn, formingIn};
 ghost use Rattle.tables.specs.Tables.{given, before, after};
 ghost use Rattle.election.specs.Finish.{Between, Ignores, Hears, named};
 ghost use Rattle.election.specs.StepOn.{outcome, stepAt};

@@ -1,7 +1,7 @@
 -- The clock: document 01, "The clock", and refusal 7.
 -- `saidMoved` gives document 01's number and value for each case of the answer.
 use Prim.Native.Nat.{ℕ, suc, max}
-use mathlib.Core.Bool.{Bool, true, false, cond}
+use mathlib.Core.Bool.{cond}
 use lib.Dec.{ltb}
 use Rattle.height.specs.declared.Moved.{Moved}
 use Rattle.height.specs.declared.Moved.the-variants.{To, AtEnd}

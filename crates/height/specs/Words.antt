@@ -1,6 +1,6 @@
 -- A height as the seven words of a lent table: tau, oid, r, delta, election time without its sign, lid, id.
 -- Every word decodes to a number, so loading is total; zero words are the all-zero height.
-use Prim.Native.Nat.{ℕ, suc, _+_, _-_, _≤_}
+use Prim.Native.Nat.{ℕ, _+_, _-_, _≤_}
 use mathlib.Core.Bool.{cond}
 use mathlib.Core.List.{List, [], _∷_}
 use lib.ListN.{getD}

@@ -1,5 +1,5 @@
 -- Messages end to end and the bits of one channel: their lengths, what is read of them, and the place behind them.
--- Assumes that the messages are AllSound, where they are read back.
+-- Assumes of messages that are read back that their words fit their fields (`MessageFields`).
 use Prim.Native.Nat.{ℕ, zero, suc, _+_, _*_, _≤_}
 use native.Mathlib.Nat.{suc-mul, zero-mul}
 use native.Mathlib.Omega.{arith}
@@ -11,36 +11,38 @@ use lib.ListN.{length, drop, length-append}
 use lib.Seq.{drop-at}
 use Rattle.bits.specs.Bits.{bits}
 use Rattle.bits.proofs.Numbers.{Below, below-nil, below-append, below-bits}
+use Rattle.protocol.proofs.AllOf.{AllOf, none, more}
 use Rattle.protocol.proofs.TestsLaws.{Choice, yes!, no!, choice}
 use Rattle.image.specs.Image.{messageBits, channelBits}
 use Rattle.image.specs.Places.{fieldIn, messagesOf, channelNext}
 use Rattle.image.specs.Records.{Records}
 use Rattle.image.specs.Widths.{recordBits, recordOf, messageWidth}
-use Rattle.image.proofs.RecordLaws.{Sound, length-message, below-record, record-of-bits}
+use Rattle.image.proofs.RecordLaws.{FitsFields, length-message, below-record, record-of-bits}
 
 -- ---- messages
 
-pub data AllSound (d : ℕ) : List (List ℕ) → Type 0 where
-  none : AllSound d []
-  more : {m : List ℕ} {ms : List (List ℕ)} → length m ≡ 8 → Sound d m → AllSound d ms → AllSound d (m ∷ ms)
+-- eight words that fit their fields
+abbrev pub MessageFields : ℕ → List ℕ → Type 0
+MessageFields d m = (length m ≡ 8) × FitsFields d m
 
-pub length-messages : (d : ℕ) (ms : List (List ℕ)) → AllSound d ms → length (messageBits d ms) ≡ length ms * messageWidth d
+pub length-messages : (d : ℕ) (ms : List (List ℕ)) → AllOf (MessageFields d) ms → length (messageBits d ms) ≡ length ms * messageWidth d
 unfolding messageBits
 length-messages d [] none = omega (arith, zero-mul (messageWidth d))
-length-messages d (m ∷ ms) (more e s r) =
+length-messages d (m ∷ ms) (more h r) =
     length-append (recordBits d m) (messageBits d ms)
-    ∙ omega (arith, length-message d m e, length-messages d ms r, suc-mul (length ms) (messageWidth d))
+    ∙ omega (arith, length-message d m (h .0), length-messages d ms r, suc-mul (length ms) (messageWidth d))
 
-pub messages-read : (d : ℕ) → 1 ≤ d → d ≤ 32 → (ms : List (List ℕ)) (t : List ℕ) → AllSound d ms → messagesOf d (length ms) (messageBits d ms ++ t) ≡ ms
+pub messages-read : (d : ℕ) → 1 ≤ d → d ≤ 32 → (ms : List (List ℕ)) (t : List ℕ) → AllOf (MessageFields d) ms
+    → messagesOf d (length ms) (messageBits d ms ++ t) ≡ ms
 unfolding messageBits messagesOf
 messages-read d one wide [] t none = refl
-messages-read d one wide (m ∷ ms) t (more e s r) =
+messages-read d one wide (m ∷ ms) t (more h r) =
     let a : (recordBits d m ++ messageBits d ms) ++ t ≡ recordBits d m ++ (messageBits d ms ++ t) =
     append-assoc (recordBits d m) (messageBits d ms) t in
     ap₂ (λ (x : List ℕ) (y : List (List ℕ)). x ∷ y)
-    (ap (recordOf d 8) a ∙ record-of-bits d 8 one wide (omega arith) (omega arith) m (messageBits d ms ++ t) e s)
+    (ap (recordOf d 8) a ∙ record-of-bits d 8 one wide (omega arith) (omega arith) m (messageBits d ms ++ t) (h .0) (h .1))
     (ap (λ (x : List ℕ). messagesOf d (length ms) (drop (messageWidth d) x)) a
-    ∙ ap (messagesOf d (length ms)) (drop-at (recordBits d m) (messageBits d ms ++ t) (messageWidth d) (length-message d m e))
+    ∙ ap (messagesOf d (length ms)) (drop-at (recordBits d m) (messageBits d ms ++ t) (messageWidth d) (length-message d m (h .0)))
     ∙ messages-read d one wide ms t r)
 
 pub length-messages-of : (d c : ℕ) (t : List ℕ) → length (messagesOf d c t) ≡ c

@@ -10,7 +10,7 @@ use lib.Dec.{eqb}
 use lib.ListN.{length, drop, replicate, length-append, length-replicate}
 use lib.Seq.{drop-at}
 use Rattle.bits.specs.Bits.{bits, number, unpacked}
-use Rattle.bits.proofs.Numbers.{Below, below-nil, below-cons, below-append, below-bits, length-bits, bits-number, number-bits}
+use Rattle.bits.proofs.Numbers.{Below, below-append, below-zeros, below-bits, length-bits, bits-number, number-bits}
 use Rattle.bits.proofs.Bytes.{unpacked-packed, length-packed}
 use Rattle.protocol.proofs.TestsLaws.{Choice, yes!, no!, choice}
 use Rattle.tables.specs.Rows.{rows}
@@ -29,10 +29,6 @@ pub bits-zero : (w : ℕ) → bits w 0 ≡ replicate w 0
 unfolding bits
 bits-zero zero = refl
 bits-zero (suc w) = ap₂ (λ (x : ℕ) (t : List ℕ). x ∷ t) (ap (λ (x : ℕ). x % 2) (zero-div (2 ^ w)) ∙ zero-mod 2) (bits-zero w)
-
-pub below-zeros : (w : ℕ) → Below 2 (replicate w 0)
-below-zeros zero = below-nil 2 (omega arith)
-below-zeros (suc w) = below-cons 2 0 (replicate w 0) (omega arith) (below-zeros w)
 
 -- bits spell 0 where they are zeros, and there only
 pub number-zeros : (w : ℕ) → number (replicate w 0) ≡ 0
@@ -88,7 +84,7 @@ length-padded l = length-append l (replicate (padding l) 0) ∙ omega (arith, le
 pub unpacked-bytes : (l : List ℕ) → Below 2 l → unpacked (bytesOf l) ≡ l ++ replicate (padding l) 0
 unfolding bytesOf padded
 unpacked-bytes l b =
-    unpacked-packed ((length l + 7) / 8) (padded l) (length-padded l) (below-append 2 l (replicate (padding l) 0) b (below-zeros (padding l)))
+    unpacked-packed ((length l + 7) / 8) (padded l) (length-padded l) (below-append 2 l (replicate (padding l) 0) b (below-zeros 2 (padding l) (omega arith)))
 
 pub length-bytes : (l : List ℕ) → length (bytesOf l) ≡ (length l + 7) / 8
 unfolding bytesOf

@@ -1,5 +1,6 @@
 -- Laws of images: round trips, records and tables, rows and cells put and got.
 -- Assumes nothing of its own: each module says what it assumes.
+pub mod Bounds
 pub mod RowsMore
 pub mod FieldInLaws
 pub mod RecordLaws

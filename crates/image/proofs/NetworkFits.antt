@@ -1,6 +1,6 @@
 -- The records of a network within the ranges of document 01 fit their fields, with depths of 16 bits.
 -- Assumes at most 16 nodes.
-use Prim.Native.Nat.{ℕ, suc, _^_, _≤_, _<_}
+use Prim.Native.Nat.{ℕ, suc, _%_, _^_, _≤_, _<_}
 use native.Mathlib.Nat.{mod-lt, lt-of-lt-of-le}
 use native.Mathlib.Omega.{arith}
 use mathlib.Core.Bool.{Bool}
@@ -8,9 +8,10 @@ use mathlib.Core.List.{List, [], _∷_, map}
 use mathlib.Core.Logic.{inl, inr}
 use mathlib.Core.Path.{refl}
 use borrow.Author.Tests.{ltb-false}
+use lib.ListN.{take, getD, set}
 use lib.IntN.{ℤ, pos, negsuc, natAbs}
 use lib.Pow.{pow-mono}
-use Rattle.bits.proofs.Fields.{Fitting}
+use Rattle.bits.proofs.Fields.{Fitting, fitting-append}
 use Rattle.height.specs.Height.{zeroHeight}
 use Rattle.height.specs.Words.{deltaWord, heightWords}
 use Rattle.height.specs.declared.Height.{Height}
@@ -20,14 +21,16 @@ use Rattle.nodeset.proofs.Members.{setOf-lt}
 use Rattle.protocol.specs.Component.{Node}
 use Rattle.protocol.specs.Network.{Message, Network}
 use Rattle.protocol.proofs.Ranges.{DeltaFits, HeightFits}
-use Rattle.protocol.proofs.Soundness.{AllFit, fcons, Fits, MessageFits}
+use Rattle.protocol.proofs.AllOf.{AllOf, none, more}
+use Rattle.protocol.proofs.Soundness.{Fits, MessageFits}
 use Rattle.protocol.proofs.TestsLaws.{Choice, yes!, no!, choice, SameOrNot, equal?}
 use Rattle.tables.specs.Cell.{messageWords}
 use Rattle.tables.proofs.Back.{message-length}
 use Rattle.image.specs.Records.{recordsOf}
-use Rattle.image.proofs.ChannelLaws.{AllSound, none, more}
+use Rattle.image.specs.Widths.{widthsOf}
+use Rattle.image.proofs.ChannelLaws.{MessageFields}
 use Rattle.image.proofs.ReadBack.{Fit}
-use Rattle.image.proofs.RecordLaws.{Holds, Sound}
+use Rattle.image.proofs.RecordLaws.{Holds, FitsFields}
 use Rattle.image.proofs.TablesRecords.{length-words}
 
 -- ---- heights and messages
@@ -41,9 +44,9 @@ module _ (n : ℕ) (few : n ≤ 16) (k : ℕ) (node : k ≤ n) (h : Height) (f :
   size : natAbs (h .pair .nlts .0) < 4294967296
   size = rw (f .pair .nlts-is, natAbs-neg (f .pair .election)) (omega (arith, f .pair .election-le))
 
-  pub height-sound : Sound 16 (heightWords h)
+  pub height-fields : FitsFields 16 (heightWords h)
   unfolding heightWords Fitting
-  height-sound = record {
+  height-fields = record {
     count = omega arith;
     has = omega arith;
     others = (
@@ -59,9 +62,9 @@ module _ (n : ℕ) (few : n ≤ 16) (k : ℕ) (node : k ≤ n) (h : Height) (f :
     depth = delta-holds (h .delta) (f .delta);
   }
 
-zero-sound : Sound 16 (heightWords zeroHeight)
+zero-fields : FitsFields 16 (heightWords zeroHeight)
 unfolding heightWords Fitting deltaWord
-zero-sound = record {
+zero-fields = record {
   count = omega arith;
   has = omega arith;
   others = (omega arith, (omega arith, (omega arith, (omega arith, (omega arith, (omega arith, (omega arith, tt)))))));
@@ -69,42 +72,24 @@ zero-sound = record {
 }
 
 module _ (n : ℕ) (few : n ≤ 16) (u : ℕ) (node : u ≤ n) where
-  pub message-sound : (m : Message) → MessageFits n u m → Sound 16 (messageWords m)
+  pub message-fields : (m : Message) → MessageFits n u m → MessageFields 16 (messageWords m)
   unfolding messageWords heightWords Fitting
-  message-sound m f =
-      let s = height-sound n few u node (m .height) (f .height) in
-      let o = s .others in
-      record {
-        count = omega arith;
-        has = omega arith;
-        others = (
-          o .0,
-          (
-            o .1 .0,
-            (
-              o .1 .1 .0,
-              (
-                o .1 .1 .1 .0,
-                (
-                  o .1 .1 .1 .1 .0,
-                  (
-                    o .1 .1 .1 .1 .1 .0,
-                    (
-                      o .1 .1 .1 .1 .1 .1 .0,
-                      (omega (arith, f .timestamp-le), tt),
-                    ),
-                  ),
-                ),
-              ),
-            ),
-          ),
-        );
-        depth = s .depth;
-      }
+  message-fields m f =
+      let s = height-fields n few u node (m .height) (f .height) in
+      let ws : List ℕ = heightWords (m .height) in
+      let stamp : Fitting (32 ∷ []) (m .timestamp ∷ []) = (omega (arith, f .timestamp-le), tt) in (
+        message-length m,
+        record {
+          count = omega arith;
+          has = omega arith;
+          others = fitting-append (take 7 (widthsOf 16)) (32 ∷ []) (set ws 3 (getD ws 3 0 % 2 ^ 16)) (m .timestamp ∷ []) refl (s .others) stamp;
+          depth = s .depth;
+        },
+      )
 
-  pub messages-sound : (ms : List Message) → AllFit n u ms → AllSound 16 (map messageWords ms)
-  messages-sound [] f = none
-  messages-sound (m ∷ ms) (fcons f fs) = more (message-length m) (message-sound m f) (messages-sound ms fs)
+  pub messages-fields : (ms : List Message) → AllOf (MessageFits n u) ms → AllOf (MessageFields 16) (map messageWords ms)
+  messages-fields [] f = none
+  messages-fields (m ∷ ms) (more f fs) = more (message-fields m f) (messages-fields ms fs)
 
 -- ---- the records of a network
 
@@ -116,13 +101,13 @@ network-fit n few p fits = record {
   forming-lt = λ i l. set-lt (p .forming (suc i));
   heights = λ i j l m. (refl, view (suc i) (suc j) (record { low = omega arith; high = l }) m (equal? (suc j) (suc i)) (choice (p .neighbors (suc i) (suc j))));
   counts = λ i j l m. rw (length-words (p .channel (suc i) (suc j))) (omega (arith, fits .lengths (suc i) (suc j)));
-  messages = λ i j l m. messages-sound n few (suc i) l (p .channel (suc i) (suc j)) (fits .messages (suc i) (suc j));
+  messages = λ i j l m. messages-fields n few (suc i) l (p .channel (suc i) (suc j)) (fits .messages (suc i) (suc j));
 }
   where
     set-lt : (f : ℕ → Bool) → setOf n f < 2 ^ 16
     set-lt f = lt-of-lt-of-le (setOf-lt n f) (pow-mono few)
 
-    view : (u v : ℕ) → Node n u → v ≤ n → SameOrNot v u → Choice (p .neighbors u v) → Sound 16 (heightWords (p .height u v))
-    view u v a b (inl e) c = rw e (height-sound n few u (a .high) (p .height u u) (fits .nodes u .own a))
-    view u v a b (inr d) (yes! e) = height-sound n few v b (p .height u v) (fits .nodes u .views v e)
-    view u v a b (inr d) (no! e) = rw (fits .nodes u .blank v d e) zero-sound
+    view : (u v : ℕ) → Node n u → v ≤ n → SameOrNot v u → Choice (p .neighbors u v) → FitsFields 16 (heightWords (p .height u v))
+    view u v a b (inl e) c = rw e (height-fields n few u (a .high) (p .height u u) (fits .nodes u .own a))
+    view u v a b (inr d) (yes! e) = height-fields n few v b (p .height u v) (fits .nodes u .views v e)
+    view u v a b (inr d) (no! e) = rw (fits .nodes u .blank v d e) zero-fields

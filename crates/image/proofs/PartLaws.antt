@@ -9,6 +9,7 @@ use lib.ListN.{length, take, drop, replicate, length-append, length-drop, replic
 use lib.Seq.{drop-drop}
 use Rattle.bits.specs.Bits.{bits, total}
 use Rattle.bits.proofs.Numbers.{Below, below-append, below-bits, length-bits}
+use Rattle.protocol.proofs.AllOf.{none, more}
 use Rattle.tables.specs.Cell.{count}
 use Rattle.tables.specs.Row.{clockIn, neighborsIn, formingIn}
 use Rattle.tables.specs.Rows.{rows, rowAt}
@@ -23,7 +24,7 @@ use Rattle.image.specs.Widths.{recordBits, recordOf, widthsOf, heightWid
 use Rattle.image.proofs.ChannelLaws.{length-messages-of}
 use Rattle.image.proofs.RecordLaws.{total-height, total-message, length-record, below-record, length-record-bits}
 use Rattle.image.proofs.RowsMore.{below-rows}
-use Rattle.image.proofs.TablesRecords.{Eights, enil, econs, length-cell}
+use Rattle.image.proofs.TablesRecords.{Eights, length-cell}
 
 -- ---- n records of m words each, end to end
 
@@ -92,7 +93,7 @@ places-bits : (d k : ℕ) (ms : List (List ℕ)) → length ms ≤ k → Eights 
 unfolding rows messageBits placesOf
 places-bits d k [] h e = refl
 places-bits d zero (m ∷ ms) h e = absurd (omega arith)
-places-bits d (suc k) (m ∷ ms) h (econs a e) =
+places-bits d (suc k) (m ∷ ms) h (more a e) =
     ap₂ (λ (a b : List ℕ). recordBits d a ++ b) (row-first 8 m (placesOf k ms) a)
     (rows-same (length ms) (λ v. recordBits d (rowAt 8 (suc v - 1) (m ++ placesOf k ms))) (λ v. recordBits d (rowAt 8 (v - 1) (placesOf k ms)))
     (λ i l.
@@ -163,8 +164,8 @@ length-row-from d n l at =
 -- each message has eight words
 pub messages-wide : (d c : ℕ) (l : List ℕ) → Eights (messagesOf d c l)
 unfolding messagesOf
-messages-wide d zero l = enil
-messages-wide d (suc c) l = econs (length-record d 8 (omega arith) l) (messages-wide d c (drop (messageWidth d) l))
+messages-wide d zero l = none
+messages-wide d (suc c) l = more (length-record d 8 (omega arith) l) (messages-wide d c (drop (messageWidth d) l))
 
 pub length-cell-from : (d : ℕ) (l : List ℕ) (at : ℕ) → fieldIn l at 4 ≤ 8 → length (cellFrom d l at) ≡ 65
 unfolding cellFrom channelFrom

@@ -35,6 +35,7 @@ walked-le next h k n q b =
 module _ (h d n : ℕ) where
   -- ---- the nodes
 
+  -- node i + 1's record ends by the start of the channels
   pub node-in : (i : ℕ) → i < n → nodePlace h d n (suc i) + nodeWidth d n ≤ channelsPlace h d n
   unfolding nodePlace channelsPlace
   node-in i b =
@@ -45,6 +46,7 @@ module _ (h d n : ℕ) where
   -- ---- the channels
 
   module _ (l : List ℕ) where
+    -- a channel starts behind the one before it; the first from a node behind the last from the node before
     pub channel-next : (u j : ℕ) → channelPlace h d n l u (suc (suc j)) ≡ channelNext d l u (suc j) (channelPlace h d n l u (suc j))
     unfolding channelPlace walked
     channel-next u j =

@@ -11,6 +11,7 @@ use lib.Dec.{eqb}
 use lib.ListN.{length, drop, length-append}
 use Rattle.bits.specs.Bits.{bits}
 use Rattle.bits.proofs.Numbers.{length-bits}
+use Rattle.protocol.proofs.AllOf.{AllOf}
 use Rattle.protocol.proofs.TestsLaws.{Choice, yes!, no!, choice}
 use Rattle.tables.specs.Rows.{rows}
 use Rattle.tables.proofs.RowsMore.{later, length-rows}
@@ -19,9 +20,9 @@ use Rattle.image.specs.Places.{fieldIn, nodePlace, heightFrom, messagesO
 use Rattle.image.specs.Places.{channelsPlace, channelsFromPlace, channelPlace, imageEnd, recordsIn}
 use Rattle.image.specs.Records.{Records}
 use Rattle.image.specs.Widths.{recordBits, recordOf, heightWidth, messageWidth, nodeWidth}
-use Rattle.image.proofs.ChannelLaws.{AllSound, length-messages, messages-read, channel-same, channel-other, next-same, next-other}
+use Rattle.image.proofs.ChannelLaws.{MessageFields, length-messages, messages-read, channel-same, channel-other, next-same, next-other}
 use Rattle.image.proofs.FieldInLaws.{field-head, field-behind}
-use Rattle.image.proofs.RecordLaws.{Sound, length-height, record-of-bits}
+use Rattle.image.proofs.RecordLaws.{FitsFields, length-height, record-of-bits}
 use Rattle.image.proofs.WalkLaws.{walk-at, walk-end, walk-length, walked-add}
 
 -- the words of nodes 1 to n fit their fields
@@ -29,9 +30,9 @@ pub record Fit (d n : ℕ) (r : Records) : Type 0 where
   pub clocks : (i : ℕ) → i < n → r .clock (suc i) < 2 ^ 32
   pub neighbors-lt : (i : ℕ) → i < n → r .neighbors (suc i) < 2 ^ 16
   pub forming-lt : (i : ℕ) → i < n → r .forming (suc i) < 2 ^ 16
-  pub heights : (i j : ℕ) → i < n → j < n → (length (r .height (suc i) (suc j)) ≡ 7) × Sound d (r .height (suc i) (suc j))
+  pub heights : (i j : ℕ) → i < n → j < n → (length (r .height (suc i) (suc j)) ≡ 7) × FitsFields d (r .height (suc i) (suc j))
   pub counts : (i j : ℕ) → i < n → j < n → length (r .channel (suc i) (suc j)) < 16
-  pub messages : (i j : ℕ) → i < n → j < n → AllSound d (r .channel (suc i) (suc j))
+  pub messages : (i j : ℕ) → i < n → j < n → AllOf (MessageFields d) (r .channel (suc i) (suc j))
 
 -- two records are the same at nodes 1 to n and their channels
 pub record Agree (n : ℕ) (r s : Records) : Type 0 where

@@ -1,5 +1,5 @@
 -- The words of a height or a message and their bits: lengths, room, what was put is got, what was got is put. Over a depth's width d, 1 to 32.
--- Assumes that words that are got back are Sound: each fits its field, the depth with its sign.
+-- Assumes of words that are got back that each fits its field, the depth with its sign (`FitsFields`).
 use Prim.Native.Nat.{ℕ, zero, suc, _+_, _-_, _*_, _%_, _^_, _≤_, _<_}
 use native.Mathlib.Nat.{mod-eq-of-lt, add-mul-mod-self-right, two-pow-succ, mod-mod}
 use native.Mathlib.Decide.{decLt}
@@ -87,24 +87,20 @@ pub total-message : (d : ℕ) → total (take 8 (widthsOf d)) ≡ messageWidth d
 unfolding total messageWidth
 total-message d = omega arith
 
-data Narrow : List ℕ → Type 0 where
-  none : Narrow []
-  more : (w : ℕ) {ws : List ℕ} → w < 33 → Narrow ws → Narrow (w ∷ ws)
-
-narrow : {ws : List ℕ} → Narrow ws → Below 33 ws
-narrow none = below-nil 33 (omega arith)
-narrow (more w {ws} h r) = below-cons 33 w ws h (narrow r)
-
-narrow-widths : (d : ℕ) → d ≤ 32 → Narrow (widthsOf d)
-narrow-widths d h =
-    more 32 (omega arith) (more 5 (omega arith) (more 1 (omega arith) (more d (omega arith)
-    (more 32 (omega arith) (more 5 (omega arith) (more 5 (omega arith) (more 32 (omega arith) none)))))))
+-- no field is wider than a word
+pub widths-narrow : (d k : ℕ) → d ≤ 32 → Below 33 (take k (widthsOf d))
+widths-narrow d k h =
+    let t : ℕ → List ℕ = λ i. drop i (widthsOf d) in
+    let c : (x i : ℕ) → x < 33 → Below 33 (t i) → Below 33 (x ∷ t i) = λ x i. below-cons 33 x (t i) in
+    below-take 33 k (widthsOf d) (omega arith)
+    (c 32 1 (omega arith) (c 5 2 (omega arith) (c 1 3 (omega arith) (c d 4 (omega arith)
+    (c 32 5 (omega arith) (c 5 6 (omega arith) (c 5 7 (omega arith) (c 32 8 (omega arith) (below-nil 33 (omega arith))))))))))
 
 -- a record of m words, which take w bits, has room where w bits stand inside the bytes
 pub room : (xs : List ℕ) (at d m w : ℕ) → d ≤ 32 → total (take m (widthsOf d)) ≡ w → at + w < 2 ^ 32 → at + w ≤ 8 * length xs
     → RoomFor xs at (take m (widthsOf d))
 room xs at d m w h e s i = record {
-  narrow = λ k. omega (arith, below-take 33 m (widthsOf d) (omega arith) (narrow (narrow-widths d h)) k);
+  narrow = λ k. omega (arith, widths-narrow d m h k);
   small = omega arith;
   inside = omega arith;
 }
@@ -120,7 +116,7 @@ spread-set (w ∷ ws) (v ∷ vs) zero y e = ap (λ (t : List ℕ). t ++ spread w
 spread-set (w ∷ ws) (v ∷ vs) (suc i) y e = ap (λ (t : List ℕ). bits w v ++ t) (spread-set ws vs i y e)
 
 -- words that a record of depth width d holds: all but the depth fit their widths, and d bits hold the depth
-pub record Sound (d : ℕ) (vs : List ℕ) : Type 0 where
+pub record FitsFields (d : ℕ) (vs : List ℕ) : Type 0 where
   pub count : length vs ≤ 8
   pub has : 4 ≤ length vs
   pub others : Fitting (take (length vs) (widthsOf d)) (set vs 3 (getD vs 3 0 % 2 ^ d))
@@ -132,6 +128,10 @@ unfolding gathered fieldIn
 gathered-lt [] bs b i h = absurd (omega arith)
 gathered-lt (w ∷ ws) bs b zero h = field-in-lt bs 0 w b
 gathered-lt (w ∷ ws) bs b (suc i) h = gathered-lt ws (drop w bs) (below-drop 2 w bs b) i (omega arith)
+
+-- and so the depth
+pub depth-lt : (d k : ℕ) → 4 ≤ k → k ≤ 8 → (bs : List ℕ) → Below 2 bs → getD (gathered (take k (widthsOf d)) bs) 3 0 < 2 ^ d
+depth-lt d k four eight bs b = rw (depth-width d k four) at (gathered-lt (take k (widthsOf d)) bs b 3 (omega (arith, length-widths d k eight)))
 
 pub length-record : (d k : ℕ) → k ≤ 8 → (bs : List ℕ) → length (recordOf d k bs) ≡ k
 unfolding recordOf
@@ -158,7 +158,7 @@ below-record d us = below-spread (take (length us) (widthsOf d)) us
 
 module _ (d n : ℕ) (h : 1 ≤ d) (k : d ≤ 32) (four : 4 ≤ n) (eight : n ≤ 8) where
   -- what was put is got
-  pub record-of-bits : (vs rest : List ℕ) → length vs ≡ n → Sound d vs → recordOf d n (recordBits d vs ++ rest) ≡ vs
+  pub record-of-bits : (vs rest : List ℕ) → length vs ≡ n → FitsFields d vs → recordOf d n (recordBits d vs ++ rest) ≡ vs
   unfolding recordOf recordBits
   record-of-bits vs rest e s =
       let ws : List ℕ = take n (widthsOf d) in
@@ -184,13 +184,13 @@ module _ (d n : ℕ) (h : 1 ≤ d) (k : d ≤ 32) (four : 4 ≤ n) (eight : n �
   bits-of-record bs b r =
       let ws : List ℕ = take n (widthsOf d) in
       let g : List ℕ = gathered ws bs in
-      let x : getD g 3 0 < 2 ^ d = rw (depth-width d n four) at (gathered-lt ws bs b 3 (omega (arith, length-widths d n eight))) in
+      let x : getD g 3 0 < 2 ^ d = depth-lt d n four eight bs b in
       ap (λ (m : ℕ). spread (take m (widthsOf d)) (set g 3 (extendedOf d (getD g 3 0)))) (length-record d n eight bs)
       ∙ spread-set ws g 3 (extendedOf d (getD g 3 0)) (rw (depth-width d n four) (extended-mod d (getD g 3 0) h k x ∙ sym (mod-eq-of-lt x)))
       ∙ spread-gathered ws bs b r
 
   -- and at any bit place of bytes
-  pub record-put-get : (xs vs : List ℕ) (at : ℕ) → length vs ≡ n → Sound d vs → at + total (take n (widthsOf d)) ≤ 8 * length xs
+  pub record-put-get : (xs vs : List ℕ) (at : ℕ) → length vs ≡ n → FitsFields d vs → at + total (take n (widthsOf d)) ≤ 8 * length xs
       → recordOf d n (drop at (unpacked (written xs at (recordBits d vs)))) ≡ vs
   record-put-get xs vs at e s r =
       ap (recordOf d n) (written-tail xs at (recordBits d vs) (below-record d vs) (rw (length-record-bits d n eight vs e) r))

@@ -1,14 +1,14 @@
 -- A message's record is a height's and then a stamp: what putting and getting seven words, and then the eighth, comes to.
 -- Over a depth's width d. Assumes nothing.
-use Prim.Native.Nat.{ℕ, zero, suc, _+_, _*_, _^_, _≤_, _<_}
+use Prim.Native.Nat.{ℕ, _+_, _*_, _^_, _≤_, _<_}
 use native.Mathlib.Nat.{le-of-eq}
 use native.Mathlib.Decide.{decLt}
 use native.Mathlib.Omega.{arith}
 use mathlib.Core.Logic.{_⊎_, inl, inr, ⊎-elim}
-use mathlib.Core.Path.{_≡_, refl, sym, ap, ap₂, _∙_}
+use mathlib.Core.Path.{_≡_, sym, ap, ap₂, _∙_}
 use mathlib.Core.List.{List, [], _∷_, _++_, append-nil}
 use lib.ListN.{length, take, drop, getD, set, length-set, length-append, length-drop, length-take, drop-of-length-le}
-use lib.Seq.{take-all, drop-cons, drop-drop, set-at}
+use lib.Seq.{take-all, drop-cons, drop-drop, set-at, set-append-left, getD-take, take-append-seam}
 use Rattle.bits.specs.Bits.{bits, number, unpacked, field, written, total, spread, gathered, RoomFor}
 use Rattle.bits.proofs.Numbers.{length-bits}
 use Rattle.bits.proofs.Bytes.{written-written}
@@ -74,15 +74,8 @@ message-put xs at d ws e h =
 
 -- ---- getting
 
-set-front : (g t : List ℕ) (i y : ℕ) → i < length g → set (g ++ t) i y ≡ set g i y ++ t
-set-front [] t i y h = absurd (omega arith)
-set-front (x ∷ g) t zero y h = refl
-set-front (x ∷ g) t (suc i) y h = ap (λ (l : List ℕ). x ∷ l) (set-front g t i y (omega arith))
-
 get-front : (g t : List ℕ) (i : ℕ) → i < length g → getD (g ++ t) i 0 ≡ getD g i 0
-get-front [] t i h = absurd (omega arith)
-get-front (x ∷ g) t zero h = refl
-get-front (x ∷ g) t (suc i) h = get-front g t i (omega arith)
+get-front g t i h = sym (getD-take (length g) (g ++ t) i 0 h) ∙ ap (λ (l : List ℕ). getD l i 0) (take-append-seam g t)
 
 pub seven-got : (d : ℕ) (bs : List ℕ) → length (gathered (take 7 (widthsOf d)) bs) ≡ 7
 seven-got d bs = length-gathered (take 7 (widthsOf d)) bs ∙ length-widths d 7 (omega arith)
@@ -116,9 +109,9 @@ message-got d bs ws y e ey =
     gathered-more (widthsOf d) bs 7 (omega arith)
     ∙ ap (λ (k : ℕ). g ++ (number (take 32 (drop k bs)) ∷ [])) (total-height d) ∙ ap (λ (k : ℕ). g ++ (k ∷ [])) (sym ey) in
     ap (λ (t : List ℕ). set (set (g ++ t) 3 x) 7 y) last
-    ∙ ap (λ (t : List ℕ). set t 7 y) (set-front g (getD ws 7 0 ∷ []) 3 x (omega arith))
+    ∙ ap (λ (t : List ℕ). set t 7 y) (set-append-left g (getD ws 7 0 ∷ []) 3 x (omega arith))
     ∙ set-at (set g 3 x) (getD ws 7 0) [] y 7 m
-    ∙ sym (set-front g (y ∷ []) 3 x (omega arith))
+    ∙ sym (set-append-left g (y ∷ []) 3 x (omega arith))
     ∙ ap (λ (k : ℕ). set (g ++ (y ∷ [])) 3 (extendedOf d k)) (sym (get-front g (y ∷ []) 3 (omega arith)))
     ∙ sym (ap (λ (l : List ℕ). set l 3 (extendedOf d (getD l 3 0))) (ap (λ (k : ℕ). gathered (take k (widthsOf d)) bs) e ∙ all))
 

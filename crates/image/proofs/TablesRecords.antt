@@ -10,6 +10,7 @@ use borrow.Author.Tests.{eq-eqb, ne-eqb}
 use lib.ListN.{length, take, drop, getD, replicate, length-append, length-map, length-replicate}
 use lib.Seq.{take-at, drop-at}
 use Rattle.protocol.specs.Network.{Message, Network}
+use Rattle.protocol.proofs.AllOf.{AllOf, none, more}
 use Rattle.protocol.proofs.TestsLaws.{SameOrNot, equal?}
 use Rattle.tables.specs.Cell.{messageWords, placeWords, cellWords}
 use Rattle.tables.specs.Load.{tablesOf}
@@ -48,9 +49,8 @@ network-tables n p diagonal =
 -- ---- records are told by their tables
 
 -- each message has eight words
-pub data Eights : List (List ℕ) → Type 0 where
-  enil : Eights []
-  econs : {m : List ℕ} {ms : List (List ℕ)} → length m ≡ 8 → Eights ms → Eights (m ∷ ms)
+abbrev pub Eights : List (List ℕ) → Type 0
+Eights ms = AllOf (λ (m : List ℕ). length m ≡ 8) ms
 
 -- the shape of records: seven words a height, eight a message, at most 8 messages
 pub record Shaped (n : ℕ) (r : Records) : Type 0 where
@@ -65,7 +65,7 @@ places-tell k [] [] em ex same l e = refl
 places-tell k [] (x ∷ xs) em ex same l e = absurd (omega arith)
 places-tell k (m ∷ ms) [] em ex same l e = absurd (omega arith)
 places-tell zero (m ∷ ms) (x ∷ xs) em ex same l e = absurd (omega arith)
-places-tell (suc k) (m ∷ ms) (x ∷ xs) (econs a em) (econs b ex) same l e =
+places-tell (suc k) (m ∷ ms) (x ∷ xs) (more a em) (more b ex) same l e =
     let first : m ≡ x = sym (take-at m (placesOf k ms) 8 a) ∙ (ap (take 8) e ∙ take-at x (placesOf k xs) 8 b) in
     let rest : placesOf k ms ≡ placesOf k xs = sym (drop-at m (placesOf k ms) 8 a) ∙ (ap (drop 8) e ∙ drop-at x (placesOf k xs) 8 b) in
     ap₂ (λ (y : List ℕ) (ys : List (List ℕ)). y ∷ ys) first (places-tell k ms xs em ex (omega arith) (omega arith) rest)
@@ -79,8 +79,8 @@ unfolding placesOf
 length-places zero [] em l = refl
 length-places zero (m ∷ ms) em l = absurd (omega arith)
 length-places (suc k) [] em l =
-    length-append (replicate 8 0) (placesOf k []) ∙ omega (arith, length-replicate {A = ℕ} 8 0, length-places k [] enil (omega arith))
-length-places (suc k) (m ∷ ms) (econs a em) l =
+    length-append (replicate 8 0) (placesOf k []) ∙ omega (arith, length-replicate {A = ℕ} 8 0, length-places k [] none (omega arith))
+length-places (suc k) (m ∷ ms) (more a em) l =
     length-append m (placesOf k ms) ∙ omega (arith, a, length-places k ms em (omega arith))
 
 pub length-cell : (ms : List (List ℕ)) → Eights ms → length ms ≤ 8 → length (cellOf ms) ≡ cellWidth
@@ -97,7 +97,7 @@ module _ (n : ℕ) (r : Records) (shape : Shaped n r) where
 
   eights : (i j : ℕ) → i < n → j < n → SameOrNot (suc i) (suc j) → Eights (messagesFrom r (suc i) (suc j))
   unfolding messagesFrom
-  eights i j l m (inl e) = rw (eq-eqb (suc i) (suc j) e) enil
+  eights i j l m (inl e) = rw (eq-eqb (suc i) (suc j) e) none
   eights i j l m (inr d) = rw (ne-eqb (suc i) (suc j) d) (shape .messages i j l m d)
 
   at-most : (i j : ℕ) → i < n → j < n → SameOrNot (suc i) (suc j) → length (messagesFrom r (suc i) (suc j)) ≤ 8

@@ -1,5 +1,5 @@
 -- A walk over pieces laid end to end, with a running place: the place after k steps is where piece k + 1 stands.
--- Assumes that each step passes the piece that stands at its place.
+-- Assumes that each step passes the piece that stands at its place (`Passes`).
 use Prim.Native.Nat.{ℕ, zero, suc, _+_, _-_, _*_, _≤_, _<_}
 use native.Mathlib.Nat.{add-assoc, add-zero, add-suc, suc-mul, sub-zero, zero-mul, le-trans, le-refl}
 use native.Mathlib.Omega.{arith}
@@ -11,9 +11,12 @@ use Rattle.tables.proofs.RowsMore.{later, rows-more, rows-all, behind}
 use Rattle.image.specs.Places.{walked}
 
 module _ (l : List ℕ) (f : ℕ → List ℕ) (next : ℕ → ℕ → ℕ) where
-  -- READING WHAT WAS WRITTEN: where a step passes the piece that stands at its place, the place after k steps is that of the rest
-  pub walk-read : (n q : ℕ) (t : List ℕ) → drop q l ≡ rows n f ++ t
-      → ((i r : ℕ) (s : List ℕ) → i < n → drop r l ≡ f (suc i) ++ s → next (suc i) r ≡ r + length (f (suc i)))
+  -- each of n steps passes the piece that stands at its place
+  abbrev pub Passes : ℕ → Type 0
+  Passes n = (i r : ℕ) (s : List ℕ) → i < n → drop r l ≡ f (suc i) ++ s → next (suc i) r ≡ r + length (f (suc i))
+
+  -- READING WHAT WAS WRITTEN: the place after k steps is that of the rest
+  pub walk-read : (n q : ℕ) (t : List ℕ) → drop q l ≡ rows n f ++ t → Passes n
       → (k : ℕ) → k ≤ n → drop (walked next k q) l ≡ later (n - k) k f ++ t
   unfolding walked later
   walk-read n q t e h zero k = e ∙ ap (λ (x : List ℕ). x ++ t) (rows-all n f ∙ ap (λ (m : ℕ). later m 0 f) (sym (sub-zero n)))
@@ -26,16 +29,14 @@ module _ (l : List ℕ) (f : ℕ → List ℕ) (next : ℕ → ℕ → ℕ) wher
       ap (λ (x : ℕ). drop x l) (h k r (later m (suc k) f ++ t) b g) ∙ behind l (f (suc k)) (later m (suc k) f ++ t) r g
 
   -- the piece at the place after k steps
-  pub walk-at : (n q : ℕ) (t : List ℕ) → drop q l ≡ rows n f ++ t
-      → ((i r : ℕ) (s : List ℕ) → i < n → drop r l ≡ f (suc i) ++ s → next (suc i) r ≡ r + length (f (suc i)))
+  pub walk-at : (n q : ℕ) (t : List ℕ) → drop q l ≡ rows n f ++ t → Passes n
       → (k : ℕ) → k < n → drop (walked next k q) l ≡ f (suc k) ++ (later (n - suc k) (suc k) f ++ t)
   unfolding later
   walk-at n q t e h k b =
       let a : n - k ≡ suc (n - suc k) = omega arith in
       walk-read n q t e h k (omega arith) ∙ ap (λ (x : ℕ). later x k f ++ t) a ∙ append-assoc (f (suc k)) (later (n - suc k) (suc k) f) t
 
-  pub walk-end : (n q : ℕ) (t : List ℕ) → drop q l ≡ rows n f ++ t
-      → ((i r : ℕ) (s : List ℕ) → i < n → drop r l ≡ f (suc i) ++ s → next (suc i) r ≡ r + length (f (suc i)))
+  pub walk-end : (n q : ℕ) (t : List ℕ) → drop q l ≡ rows n f ++ t → Passes n
       → drop (walked next n q) l ≡ t
   unfolding later
   walk-end n q t e h =
@@ -43,8 +44,7 @@ module _ (l : List ℕ) (f : ℕ → List ℕ) (next : ℕ → ℕ → ℕ) wher
       walk-read n q t e h n (omega arith) ∙ ap (λ (x : ℕ). later x n f ++ t) a
 
   -- and that place is where the pieces before it end
-  pub walk-length : (n q : ℕ) (t : List ℕ) → drop q l ≡ rows n f ++ t
-      → ((i r : ℕ) (s : List ℕ) → i < n → drop r l ≡ f (suc i) ++ s → next (suc i) r ≡ r + length (f (suc i)))
+  pub walk-length : (n q : ℕ) (t : List ℕ) → drop q l ≡ rows n f ++ t → Passes n
       → (k : ℕ) → k ≤ n → walked next k q ≡ q + length (rows k f)
   unfolding walked rows
   walk-length n q t e h zero b = sym (add-zero q)

@@ -7,13 +7,13 @@ use mathlib.Core.List.{List, _++_, append-assoc}
 use lib.ListN.{length, take, drop, replicate, length-append, length-drop}
 use lib.Pow.{pow-pos}
 use Rattle.bits.specs.Bits.{bits, number, packed, unpacked}
-use Rattle.bits.proofs.Numbers.{Below, below-nil, below-cons, below-append, below-drop}
+use Rattle.bits.proofs.Numbers.{Below, below-nil, below-cons, below-append, below-zeros, below-drop}
 use Rattle.bits.proofs.Bytes.{below-unpacked, length-unpacked, packed-unpacked}
 use Rattle.image.specs.Image.{headerBits, networkBits, padded, bytesOf, imageOf}
 use Rattle.image.specs.Places.{fieldIn, imageEnd, recordsIn}
 use Rattle.image.specs.Records.{Records}
 use Rattle.image.proofs.FieldInLaws.{field-head, field-behind, field-tail, field-in-lt}
-use Rattle.image.proofs.ImageBits.{below-zeros, number-zeros, zeros, padding}
+use Rattle.image.proofs.ImageBits.{number-zeros, zeros, padding}
 use Rattle.image.proofs.ImageBits.{wholeBits, below-whole, unpacked-image, length-image, length-whole, behind-header}
 use Rattle.image.proofs.ReadBack.{Fit, Agree, network-read, end-read, place-read}
 use Rattle.image.proofs.WriteBack.{network-written}
@@ -69,7 +69,7 @@ unfolding imageOf bytesOf padded
 below-image version h d n r =
     let l : List ℕ = wholeBits version h d n r in
     below-packed ((length l + 7) / 8) (l ++ replicate (padding l) 0)
-    (below-append 2 l (replicate (padding l) 0) (below-whole version h d n r) (below-zeros (padding l)))
+    (below-append 2 l (replicate (padding l) 0) (below-whole version h d n r) (below-zeros 2 (padding l) (omega arith)))
 
 -- what a reader tests of bytes before it takes them for a network of n nodes
 pub record Accepted (version h d n : ℕ) (xs : List ℕ) : Type 0 where

@@ -1,7 +1,7 @@
 // A height's seven words or a message's eight, at a bit place.
 // Assumes the bounds that each `requires` states.
 ghost use mathlib.Core.Path.{_≡_};
-ghost use Prim.Native.Nat.{_+_, _*_, _^_, _≤_, _<_};
+ghost use Prim.Native.Nat.{_+_, _^_, _≤_, _<_};
 ghost use lib.ListN.{length, take, drop};
 ghost use Rattle.bits.specs.Bits.{unpacked, written, RoomFor};
 ghost use Rattle.image.specs.Widths.{widthsOf, extendedOf, recordBits, recordOf};

@@ -17,9 +17,9 @@ use Rattle.nodeset.specs.NodeSet.{member}
 use Rattle.nodeset.proofs.Members.{none-in-zero}
 use Rattle.protocol.specs.Component.{Node}
 use Rattle.protocol.specs.Functions.{update}
-use Rattle.protocol.specs.Network.{isNode, atNodes, atPairs, freshHeight, fresh}
-use Rattle.protocol.proofs.Restrict.{is-node as node-is}
-use Rattle.protocol.proofs.TestsLaws.{Choice, yes!, no!, choice, equal?, update-at, update-off}
+use Rattle.protocol.specs.Network.{atNodes, atPairs, freshHeight, fresh}
+use Rattle.protocol.proofs.Restrict.{nodes-is, pairs-is, same-nodes, same-pairs}
+use Rattle.protocol.proofs.TestsLaws.{equal?, update-at, update-off}
 use Rattle.tables.specs.Fit.{RowFits, TablesFit}
 use Rattle.tables.specs.Cell.{emptied, queue}
 use Rattle.tables.specs.Load.{load, tablesOf, clockAt, neighborsAt, formingAt, heightsAt, messagesOn}
@@ -118,19 +118,10 @@ module _ (n i : ℕ) (inside : i < n) where
 -- ---- tables of fresh rows and empty cells
 
 nodes-are : {A : Type 0} (n : ℕ) (f g : ℕ → A) → ((u : ℕ) → Node n u → f u ≡ g u) → atNodes n f g ≡ g
-nodes-are n f g h = fun-ext λ u. go u (choice (isNode n u))
-  where
-    go : (u : ℕ) → Choice (isNode n u) → atNodes n f g u ≡ g u
-    go u (yes! e) = rw e (h u (node-is n u e))
-    go u (no! e) = rw e
+nodes-are n f g h = same-nodes n f g g h ∙ nodes-is n g g (λ u d. refl)
 
 pairs-are : {A : Type 0} (n : ℕ) (f g : ℕ → ℕ → A) → ((u v : ℕ) → Node n u → Node n v → f u v ≡ g u v) → atPairs n f g ≡ g
-pairs-are n f g h = fun-ext λ u. fun-ext λ v. go u v (choice (isNode n u)) (choice (isNode n v))
-  where
-    go : (u v : ℕ) → Choice (isNode n u) → Choice (isNode n v) → atPairs n f g u v ≡ g u v
-    go u v (yes! e) (yes! q) = rw (e, q) (h u v (node-is n u e) (node-is n v q))
-    go u v (yes! e) (no! q) = rw (e, q)
-    go u v (no! e) c = rw e
+pairs-are n f g h = same-pairs n f g g h ∙ pairs-is n g g (λ u v d. refl) (λ u v a d. refl)
 
 module _ (n : ℕ) (t : Tables) (size : Sized n t) (rows-are : (u : ℕ) → Node n u → nodeOf n u (t .nodes) ≡ freshRow n u)
     (cells-are : (u v : ℕ) → Node n u → Node n v → channelOf n u v (t .channels) ≡ emptied) where

@@ -2,39 +2,39 @@
 -- Assumes that every word is below 2 to the power 32 (`Words`).
 use Prim.Native.Nat.{ℕ, zero, suc, _+_, _-_, _*_, _^_, _<_, _≤_}
 use native.Mathlib.Omega.{arith}
-use mathlib.Core.Bool.{Bool, true, false, not, cond, _&&_, _||_, and-false}
-use mathlib.Core.List.{List, [], _∷_}
+use mathlib.Core.Bool.{Bool, true, false, cond, _&&_, _||_, and-false}
+use mathlib.Core.List.{List}
 use mathlib.Core.Logic.{_⊎_, inl, inr}
-use mathlib.Core.Path.{_≡_, refl, sym, ap, _∙_, fun-ext}
+use mathlib.Core.Path.{_≡_, refl, sym, ap, _∙_}
 use lib.Dec.{eqb, leb, ltb}
-use lib.ListN.{getD, length, take, drop}
+use lib.ListN.{getD, length, drop}
 use lib.Seq.{getD-take, getD-drop}
 use borrow.Author.Tests.{eq-eqb, ne-eqb, le-leb, ltb-true, ltb-false}
 use Rattle.height.specs.Clock.{lastTime}
 use Rattle.height.specs.Height.{heightKey, zeroHeight}
 use Rattle.height.specs.Order.{same}
 use Rattle.height.specs.Words.{heightAt, deltaOf}
-use Rattle.height.specs.declared.Height.{Height}
 use Rattle.height.proofs.OrderLaws.{clash, same-refl, not-true-is-false}
 use Rattle.nodeset.specs.NodeSet.{member}
 use Rattle.protocol.specs.Component.{Node}
-use Rattle.protocol.specs.Functions.{all}
-use Rattle.protocol.specs.Holds.{heightHolds, messageHolds, setsHold, isEmpty, ownHolds, viewHolds, channelHolds, placeHolds, nodeHolds, sound}
-use Rattle.protocol.specs.Network.{Message, Network, upTo, capacity, isNode, fresh, atNodes, atPairs, restrict}
+use Rattle.protocol.specs.Holds.{heightHolds, isEmpty, ownHolds, viewHolds, channelHolds, placeHolds, nodeHolds, sound}
+use Rattle.protocol.specs.Network.{capacity, fresh, restrict}
 use Rattle.protocol.proofs.Restrict.{pairs-is, nodes-is}
-use Rattle.protocol.proofs.TestsLaws.{Choice, yes!, no!, choice, equal?, and-both, every-all, is-node}
+use Rattle.protocol.proofs.TestsLaws.{Choice, yes!, no!, choice, equal?, and-both, every-all, other-fails}
 use Rattle.tables.specs.Cell.{count, queue, messagesAt, allZero}
 use Rattle.tables.specs.Fit.{TablesFit}
 use Rattle.tables.specs.Load.{load}
 use Rattle.tables.specs.Row.{clockIn, neighborsIn, formingIn, heightIn}
-use Rattle.tables.specs.Rows.{part, rowAt}
+use Rattle.tables.specs.Rows.{part}
 use Rattle.tables.specs.Tables.{Tables, width, nodeOf, channelOf}
 use Rattle.tables.proofs.CellLaws.{messages-length}
 use Rattle.tables.proofs.RowLaws.{height-past}
 use Rattle.tables.proofs.TablesLaws.{load-clock, load-neighbors, load-forming, load-height, load-channel, member-node}
+use Rattle.tables.proofs.WordRuns.{zero-at}
 use Rattle.places.specs.Place.{viewPlace}
+use Rattle.places.proofs.HeldPlaces.{OwnHolds}
 use Rattle.network.specs.Check.{checkOn}
-use Rattle.network.proofs.SoundTables.{Words, OwnHolds, ChannelHolds, row-word, zero-at, sound-own, sound-view, sound-channel}
+use Rattle.network.proofs.SoundTables.{Words, row-word, sound-own, sound-view, sound-channel}
 
 -- ---- zero words
 
@@ -142,18 +142,15 @@ module _ (n : ℕ) (t : Tables) (fit : TablesFit n t) where
       beyond true e = absurd (d (record { low = omega arith; high = omega (arith, ltb-true k n e) }))
       beyond false e = ltb-false k n e
 
-  no-node : (u : ℕ) → (Node n u → ⊥) → isNode n u ≡ false
-  no-node u d = not-true-is-false (isNode n u) (λ e. d (is-node n u e))
-
   pub load-inside : restrict n (load n t) ≡ load n t
   unfolding restrict load
   load-inside = λ i. record {
-    clock = nodes-is n (load n t .clock) (fresh .clock) (λ u d. rw (no-node u d)) i;
-    neighbors = pairs-is n (load n t .neighbors) (fresh .neighbors) (λ u v d. rw (no-node u d))
+    clock = nodes-is n (load n t .clock) (fresh .clock) (λ u d. rw (other-fails n u d)) i;
+    neighbors = pairs-is n (load n t .neighbors) (fresh .neighbors) (λ u v d. rw (other-fails n u d))
         (λ u v a d. rw (load-neighbors n t u a) (none-outside _ (fit .rows u a .neighbors-lt) v d)) i;
-    forming = pairs-is n (load n t .forming) (fresh .forming) (λ u v d. rw (no-node u d))
+    forming = pairs-is n (load n t .forming) (fresh .forming) (λ u v d. rw (other-fails n u d))
         (λ u v a d. rw (load-forming n t u a) (none-outside _ (fit .rows u a .forming-lt) v d)) i;
-    height = pairs-is n (load n t .height) (fresh .height) (λ u v d. rw (no-node u d))
+    height = pairs-is n (load n t .height) (fresh .height) (λ u v d. rw (other-fails n u d))
         (λ u v a d. rw (load-height n t u a) (zero-outside u v a d)) i;
-    channel = pairs-is n (load n t .channel) (fresh .channel) (λ u v d. rw (no-node u d)) (λ u v a d. rw (no-node v d, and-false)) i;
+    channel = pairs-is n (load n t .channel) (fresh .channel) (λ u v d. rw (other-fails n u d)) (λ u v a d. rw (other-fails n v d, and-false)) i;
   }

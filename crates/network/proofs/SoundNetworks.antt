@@ -1,20 +1,17 @@
 -- The tables of a sound network pass the check.
 -- Assumes that the network's numbers fit in words (`Storable`).
-use Prim.Native.Nat.{ℕ, zero, suc, _+_, _-_, _*_, _<_, _≤_}
+use Prim.Native.Nat.{ℕ, zero, suc, _+_, _-_, _*_, _≤_}
 use native.Mathlib.Omega.{arith}
 use mathlib.Core.Bool.{Bool, true, false, not, cond, _&&_, _||_}
 use mathlib.Core.List.{List, [], _∷_, _++_}
 use mathlib.Core.Logic.{_⊎_, inl, inr}
-use mathlib.Core.Path.{_≡_, refl, sym, ap, _∙_}
+use mathlib.Core.Path.{_≡_, refl, ap, _∙_}
 use lib.Dec.{eqb, leb}
-use lib.IntN.{ℤ, pos}
-use lib.ListN.{getD, length, take, drop, replicate, length-replicate}
-use lib.Seq.{drop-at, drop-append-add, drop-append-seam, drop-drop}
-use borrow.Author.Tests.{eq-eqb, ne-eqb, eqb-true, leb-true, le-leb}
-use Rattle.height.specs.Height.{heightKey, zeroHeight}
-use Rattle.height.specs.Order.{same}
+use lib.ListN.{length, take, drop, replicate}
+use lib.Seq.{drop-append-add}
+use borrow.Author.Tests.{eq-eqb, ne-eqb, leb-true}
+use Rattle.height.specs.Height.{zeroHeight}
 use Rattle.height.specs.Words.{heightWords, deltaWord}
-use Rattle.height.specs.declared.Height.{Height}
 use Rattle.height.proofs.OrderLaws.{clash}
 use Rattle.nodeset.specs.NodeSet.{member, setOf, within}
 use Rattle.nodeset.proofs.Members.{member-setOf, setOf-lt, lt-within}
@@ -24,16 +21,16 @@ use Rattle.protocol.specs.Holds.{heightHolds, messageHolds, notInBoth, setsHold
 use Rattle.protocol.specs.Network.{Message, Network, upTo, capacity}
 use Rattle.protocol.proofs.Ranges.{zero-height}
 use Rattle.protocol.proofs.TestsLaws.{Choice, yes!, no!, choice, equal?, and-left, and-right, and-both, every-at, every-all}
-use Rattle.tables.specs.Cell.{count, queue, messageWords, placeWords, cellWords, allZero}
-use Rattle.tables.specs.Load.{load, tablesOf}
-use Rattle.tables.specs.Row.{clockIn, neighborsIn, formingIn, heightIn, nodeWords}
+use Rattle.tables.specs.Cell.{count, messageWords, placeWords, cellWords, allZero}
+use Rattle.tables.specs.Load.{tablesOf}
+use Rattle.tables.specs.Row.{neighborsIn, formingIn, heightIn, nodeWords}
 use Rattle.tables.specs.Rows.{part, rowAt, rows}
-use Rattle.tables.specs.Tables.{Tables, Sized, sized, width, nodeOf, channelOf}
-use Rattle.tables.proofs.Back.{Storable, node-of, cell-of, set-back, node-height, queue-back, words-length, message-length, tables-sized}
+use Rattle.tables.specs.Tables.{sized}
+use Rattle.tables.proofs.Back.{Storable, node-of, cell-of, node-height, queue-back, words-length, message-length, tables-sized}
 use Rattle.tables.proofs.RowsMore.{rows-at}
 use Rattle.places.specs.Place.{ownPlace, viewPlace, channelPlace, placeIn}
 use Rattle.network.proofs.CheckLaws.{is-sized}
-use Rattle.network.specs.Check.{SaidCheck, checked, place, faultInRow, faultFrom, firstFault, checkOn}
+use Rattle.network.specs.Check.{checked, place, faultInRow, faultFrom, firstFault, checkOn}
 
 -- ---- zero words
 

@@ -1,29 +1,26 @@
 -- Tables of 32-bit words in which the check finds no fault fit: their network gives them back (`tables-back`).
 -- Assumes that every word is below 2 to the power 32 (`Words`), which a slice of u32 words shows of itself.
-use Prim.Native.Nat.{ℕ, zero, suc, _+_, _-_, _*_, _≤_, _<_}
+use Prim.Native.Nat.{ℕ, _+_, _-_, _*_, _<_}
 use native.Mathlib.Omega.{arith}
-use mathlib.Core.Bool.{Bool, true, false, _&&_, _||_}
-use mathlib.Core.List.{List, [], _∷_}
+use mathlib.Core.Bool.{true, _&&_}
+use mathlib.Core.List.{List}
 use mathlib.Core.Logic.{_⊎_, inl, inr}
 use mathlib.Core.Path.{_≡_, refl, sym, ap, _∙_}
-use lib.Dec.{eqb, leb}
 use lib.ListN.{getD, length, drop}
 use lib.Seq.{getD-take, getD-drop}
-use borrow.Author.Tests.{leb-true, eqb-true, eq-eqb, ne-eqb}
-use Rattle.height.proofs.OrderLaws.{clash}
-use Rattle.nodeset.specs.NodeSet.{member, within}
+use borrow.Author.Tests.{eq-eqb, ne-eqb}
 use Rattle.nodeset.proofs.Members.{within-true}
 use Rattle.protocol.specs.Component.{Node}
-use Rattle.protocol.specs.Functions.{all}
-use Rattle.protocol.specs.Holds.{heightHolds, messageHolds, setsHold}
 use Rattle.protocol.proofs.TestsLaws.{equal?, and-left, and-right}
 use Rattle.tables.specs.Fit.{CellFits, RowFits, TablesFit}
-use Rattle.tables.specs.Cell.{count, queue, allZero}
-use Rattle.tables.specs.Row.{neighborsIn, formingIn, heightIn}
+use Rattle.tables.specs.Cell.{count, allZero}
+use Rattle.tables.specs.Row.{neighborsIn, formingIn}
 use Rattle.tables.specs.Rows.{rowAt}
 use Rattle.tables.specs.Tables.{Tables, Sized, width, cellWidth, nodeOf, pairOf, channelOf}
 use Rattle.tables.proofs.RowsLaws.{node-length, channel-length}
-use Rattle.places.specs.Place.{ownPlace, viewPlace, channelPlace, placeIn}
+use Rattle.tables.proofs.WordRuns.{zero-at}
+use Rattle.places.specs.Place.{viewPlace, channelPlace, placeIn}
+use Rattle.places.proofs.HeldPlaces.{OwnHolds, ChannelHolds, own-holds, channel-holds}
 use Rattle.network.specs.Check.{place, checkOn}
 use Rattle.network.proofs.CheckLaws.{sound-sized, sound-place}
 
@@ -36,58 +33,6 @@ pub record Words (t : Tables) : Type 0 where
 pub row-word : (w i : ℕ) (xs : List ℕ) → ((j : ℕ) → getD xs j 0 < 4294967296) → (j : ℕ) → j < w → getD (rowAt w i xs) j 0 < 4294967296
 unfolding rowAt
 row-word w i xs h j l = rw (getD-take w (drop (i * w) xs) j 0 l, getD-drop (i * w) xs j 0) (h (i * w + j))
-
-pub zero-at : (ws : List ℕ) → allZero ws ≡ true → (j : ℕ) → getD ws j 0 ≡ 0
-unfolding allZero
-zero-at [] e j = refl
-zero-at (x ∷ xs) e zero = eqb-true x 0 (and-left (eqb x 0) (allZero xs) e)
-zero-at (x ∷ xs) e (suc j) = zero-at xs (and-right (eqb x 0) (allZero xs) e) j
-
--- ---- what the tests of a place show
-
-pub record OwnHolds (n u : ℕ) (row cell : List ℕ) : Type 0 where
-  pub neighbors : within n (neighborsIn row) ≡ true
-  pub forming : within n (formingIn row) ≡ true
-  pub sets : setsHold n u (member (neighborsIn row)) (member (formingIn row)) ≡ true
-  pub height : heightHolds n u (heightIn row u) ≡ true
-  pub unused : allZero cell ≡ true
-
-pub record ChannelHolds (n u v : ℕ) (row cell : List ℕ) : Type 0 where
-  pub few : count cell ≤ 8
-  pub up : (member (neighborsIn row) v || member (formingIn row) v || eqb (count cell) 0) ≡ true
-  pub messages : all (messageHolds n u) (queue cell) ≡ true
-  pub rest : allZero (drop (1 + count cell * 8) cell) ≡ true
-
-pub own-holds : (n u : ℕ) (row cell : List ℕ) → ownPlace n u row cell ≡ true → OwnHolds n u row cell
-unfolding ownPlace
-own-holds n u row cell e =
-    go (within n (neighborsIn row)) (within n (formingIn row)) (setsHold n u (member (neighborsIn row)) (member (formingIn row)))
-    (heightHolds n u (heightIn row u)) (allZero cell) refl refl refl refl refl e
-  where
-    go : (a b c d z : Bool) → within n (neighborsIn row) ≡ a → within n (formingIn row) ≡ b
-        → setsHold n u (member (neighborsIn row)) (member (formingIn row)) ≡ c → heightHolds n u (heightIn row u) ≡ d → allZero cell ≡ z
-        → (a && b && c && d && z) ≡ true → OwnHolds n u row cell
-    go true true true true true p q r s o e = record { neighbors = p; forming = q; sets = r; height = s; unused = o }
-    go true true true true false p q r s o e = clash e refl
-    go true true true false z p q r s o e = clash e refl
-    go true true false d z p q r s o e = clash e refl
-    go true false c d z p q r s o e = clash e refl
-    go false b c d z p q r s o e = clash e refl
-
-pub channel-holds : (n u v : ℕ) (row cell : List ℕ) → channelPlace n u v row cell ≡ true → ChannelHolds n u v row cell
-unfolding channelPlace
-channel-holds n u v row cell e =
-    go (leb (count cell) 8) (member (neighborsIn row) v || member (formingIn row) v || eqb (count cell) 0)
-    (all (messageHolds n u) (queue cell)) (allZero (drop (1 + count cell * 8) cell)) refl refl refl refl e
-  where
-    go : (a b c z : Bool) → leb (count cell) 8 ≡ a → (member (neighborsIn row) v || member (formingIn row) v || eqb (count cell) 0) ≡ b
-        → all (messageHolds n u) (queue cell) ≡ c → allZero (drop (1 + count cell * 8) cell) ≡ z
-        → (a && b && c && z) ≡ true → ChannelHolds n u v row cell
-    go true true true true p q r o e = record { few = leb-true (count cell) 8 p; up = q; messages = r; rest = o }
-    go true true true false p q r o e = clash e refl
-    go true true false z p q r o e = clash e refl
-    go true false c z p q r o e = clash e refl
-    go false b c z p q r o e = clash e refl
 
 -- ---- the places of tables without a fault
 

@@ -1,7 +1,7 @@
 -- The fresh network in lent tables, whatever they held before: answers 0, or 1 and leaves them as they were.
 -- Assumes nothing: these are definitions.
 use Prim.Native.Nat.{ℕ}
-use mathlib.Core.Bool.{Bool, cond}
+use mathlib.Core.Bool.{cond}
 use Rattle.protocol.specs.Network.{fresh}
 use Rattle.tables.specs.Load.{tablesOf}
 use Rattle.tables.specs.Tables.{Tables, sized}

@@ -1,7 +1,7 @@
 // The lent tables' one door: `check` answers refusals 1 and 2 for every routine that reads tables, `is_sized` 1 for those that fill them.
 // No function requires anything: what cannot be done is refused, and nothing lent changes.
 ghost use mathlib.Core.Path.{_≡_};
-ghost use Rattle.tables.specs.Tables.{given, before, after, sized, Sized};
+ghost use Rattle.tables.specs.Tables.{before, after, sized};
 ghost use Rattle.network.specs.Check.{saidCheck, checkOn};
 ghost use Rattle.network.specs.Fresh.{filled, freshOn};
 

@@ -1,8 +1,6 @@
 // Sets of nodes 1 to 16 in a u16 (document 01: N and F), node k at the bit worth 2 to the power k - 1.
 // Every function takes any number; a node number outside 1 to 16 is in no set.
 ghost use mathlib.Core.Path.{_≡_};
-ghost use mathlib.Core.Bool.{_&&_, _||_, not};
-ghost use lib.Dec.{eqb};
 ghost use lib.Count.{ones};
 ghost use Rattle.nodeset.specs.NodeSet.{member, setOf, sameNode, inEither, inButNot, apart, within, lowest};
 

@@ -2,3 +2,4 @@
 -- Assumes nothing of its own: each module says what it assumes.
 pub mod HoldsLaws
 pub mod PlaceLaws
+pub mod HeldPlaces

@@ -6,7 +6,7 @@ use mathlib.Core.Bool.{true, false, _&&_, _||_}
 use mathlib.Core.List.{List}
 use mathlib.Core.Path.{_≡_, refl, sym, ap, _∙_}
 use lib.Dec.{eqb}
-use lib.ListN.{length, getD, take, drop}
+use lib.ListN.{getD, take, drop}
 use lib.Pow.{field, mod-mod-pow}
 use borrow.Author.Tests.{le-leb, lt-leb}
 use Rattle.height.specs.Clock.{lastTime}

@@ -1,4 +1,4 @@
--- Channels: how long one is after a message is posted, and what an event leaves of one before it sends.
+-- Channels: an empty one, one after a message is posted, and what an event leaves of one before it sends.
 -- Assumes nothing.
 use Prim.Native.Nat.{ℕ, _+_, _≤_}
 use native.Mathlib.Omega.{arith}
@@ -10,9 +10,26 @@ use borrow.Author.Tests.{ne-eqb}
 use Rattle.height.proofs.OrderLaws.{clash}
 use Rattle.nodeset.specs.NodeSet.{digit}
 use Rattle.protocol.specs.History.{isDown, isReceipt}
+use Rattle.protocol.specs.Holds.{isEmpty}
 use Rattle.protocol.specs.Network.{Message, Network}
 use Rattle.protocol.specs.Step.{Event, up, down, receive, home, cleared, post}
+use Rattle.protocol.proofs.AllOf.{AllOf, none, more, all-tail}
 use Rattle.protocol.proofs.TestsLaws.{Choice, yes!, no!, choice, both-equal, cell-at, cell-off}
+
+-- ---- empty: by its length, and by the test
+
+pub no-length : (ms : List Message) → length ms ≡ 0 → ms ≡ []
+no-length [] e = refl
+no-length (m ∷ ms) e = absurd (omega arith)
+
+pub is-empty : (ms : List Message) → isEmpty ms ≡ true → ms ≡ []
+is-empty [] e = refl
+is-empty (m ∷ ms) e = clash e refl
+
+pub empty-is : (ms : List Message) → ms ≡ [] → isEmpty ms ≡ true
+empty-is ms e = rw e
+
+-- ---- a message is posted
 
 pub length-post : (b : Bool) (m : Message) (ms : List Message) → length (post b m ms) ≡ digit b + length ms
 unfolding post
@@ -20,9 +37,13 @@ length-post false m ms = omega arith
 length-post true m [] = refl
 length-post true m (x ∷ ms) = omega (arith, length-post true m ms)
 
-pub no-length : (ms : List Message) → length ms ≡ 0 → ms ≡ []
-no-length [] e = refl
-no-length (m ∷ ms) e = absurd (omega arith)
+pub post-all : (P : Message → Type 0) (b : Bool) (m : Message) (ms : List Message) → P m → AllOf P ms → AllOf P (post b m ms)
+unfolding post
+post-all P false m ms h k = k
+post-all P true m ms h none = more h none
+post-all P true m ms h (more {x = x} {xs = rest} i k) = more i (post-all P true m rest h k)
+
+-- ---- what an event clears
 
 -- a cleared channel is the channel, its tail, or empty
 pub data Cleared (old new : List Message) : Type 0 where
@@ -75,3 +96,8 @@ pub cleared-nil : (old new : List Message) → Cleared old new → old ≡ [] �
 cleared-nil old new (isWhole e) h = e ∙ h
 cleared-nil old new (isTail e) h = rw (e, h)
 cleared-nil old new (isGone e) h = e
+
+pub cleared-all : (P : Message → Type 0) (old new : List Message) → Cleared old new → AllOf P old → AllOf P new
+cleared-all P old new (isWhole e) h = rw e h
+cleared-all P old new (isTail e) h = rw e (all-tail P old h)
+cleared-all P old new (isGone e) h = rw e none

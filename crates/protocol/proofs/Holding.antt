@@ -19,18 +19,20 @@ use Rattle.protocol.specs.Holds.{heightHolds, messageHolds, notInBoth, s
 use Rattle.protocol.specs.Holds.{viewHolds, channelHolds, placeHolds, nodeHolds, sound}
 use Rattle.protocol.specs.Network.{Message, Network, upTo, capacity}
 use Rattle.protocol.specs.Times.{timesWithin, messageTimely, pairTimely, nodeTimely, timely}
-use Rattle.protocol.proofs.Invariant.{AllSound, some, Inv}
+use Rattle.protocol.proofs.AllOf.{AllOf, more}
+use Rattle.protocol.proofs.Channels.{empty-is}
+use Rattle.protocol.proofs.Invariant.{PostedBy, Inv}
 use Rattle.protocol.proofs.Ranges.{negated-le, height-holds}
 use Rattle.protocol.proofs.RuleLaws.{Bounded}
-use Rattle.protocol.proofs.Soundness.{AllFit, fcons, Fits, diagonal}
+use Rattle.protocol.proofs.Soundness.{MessageFits, Fits, diagonal}
 use Rattle.protocol.proofs.TestsLaws.{Choice, yes!, no!, choice, SameOrNot, equal?, and-both, every-all}
 
 -- ---- messages
 
-messages-hold : (n u : ℕ) (ms : List Message) → AllFit n u ms → all (messageHolds n u) ms ≡ true
+messages-hold : (n u : ℕ) (ms : List Message) → AllOf (MessageFits n u) ms → all (messageHolds n u) ms ≡ true
 unfolding all messageHolds
 messages-hold n u [] fit = refl
-messages-hold n u (m ∷ ms) (fcons f fit) =
+messages-hold n u (m ∷ ms) (more f fit) =
     and-both (and-both (height-holds n u (m .height) (f .height)) (le-leb (m .timestamp) lastTime (f .timestamp-le)))
     (messages-hold n u ms fit)
 
@@ -38,15 +40,12 @@ within : (c : ℕ) (h : Height) → Bounded c h → timesWithin c h ≡ true
 unfolding timesWithin
 within c h b = and-both (le-leb (h .level .tau .0) c (b .tau-le)) (rw (b .nlts-is) (negated-le c (b .election) (b .election-le)))
 
-messages-timely : (u c : ℕ) (ms : List Message) → AllSound c u ms → all (messageTimely c) ms ≡ true
+messages-timely : (u c : ℕ) (ms : List Message) → AllOf (PostedBy c u) ms → all (messageTimely c) ms ≡ true
 unfolding all messageTimely
-messages-timely u c [] sound = refl
-messages-timely u c (m ∷ ms) (some s sound) =
+messages-timely u c [] posted = refl
+messages-timely u c (m ∷ ms) (more s posted) =
     and-both (and-both (le-leb (m .timestamp) c (s .timestamp-le)) (within (m .timestamp) (m .height) (s .bounded)))
-    (messages-timely u c ms sound)
-
-empty-is : (ms : List Message) → ms ≡ [] → isEmpty ms ≡ true
-empty-is ms e = rw e
+    (messages-timely u c ms posted)
 
 -- ---- places
 

@@ -3,7 +3,7 @@
 use Prim.Native.Nat.{ℕ, _≤_}
 use native.Mathlib.Omega.{arith}
 use mathlib.Core.Bool.{Bool, true, false}
-use mathlib.Core.List.{List, [], _∷_, tail}
+use mathlib.Core.List.{List}
 use mathlib.Core.Logic.{inl, inr}
 use mathlib.Core.Path.{_≡_, refl, sym, _∙_}
 use Rattle.height.specs.declared.Height.{Height}
@@ -11,19 +11,17 @@ use Rattle.protocol.specs.Functions.{update}
 use Rattle.protocol.specs.Network.{Message, Network}
 use Rattle.protocol.specs.Sink.{sink}
 use Rattle.protocol.specs.Step.{Local, post, commit}
+use Rattle.protocol.proofs.AllOf.{AllOf, all-weaker}
+use Rattle.protocol.proofs.Channels.{post-all}
 use Rattle.protocol.proofs.LinkLaws.{Side, Link, flip, drained}
 use Rattle.protocol.proofs.RuleLaws.{Bounded}
 use Rattle.protocol.proofs.TestsLaws.{SameOrNot, equal?, update-at, update-off, row-at, row-off}
 
--- a message of u, whose clock is c
-pub record Sound (c u : ℕ) (m : Message) : Type 0 where
+-- a message that u can have posted by the time c
+pub record PostedBy (c u : ℕ) (m : Message) : Type 0 where
   pub timestamp-le : m .timestamp ≤ c
   pub bounded : Bounded (m .timestamp) (m .height)
   pub sender : m .height .id ≡ u
-
-pub data AllSound (c u : ℕ) : List Message → Type 0 where
-  none : AllSound c u []
-  some : {m : Message} {ms : List Message} → Sound c u m → AllSound c u ms → AllSound c u (m ∷ ms)
 
 -- node u, at the clock c
 pub record Settled (n u c : ℕ) (N F : ℕ → Bool) (row : ℕ → Height) : Type 0 where
@@ -45,26 +43,13 @@ sideOf p a b = record {
 
 pub record Inv (n : ℕ) (p : Network) : Type 0 where
   pub nodes : (u : ℕ) → Settled n u (p .clock u) (p .neighbors u) (p .forming u) (p .height u)
-  pub posted : (u v : ℕ) → AllSound (p .clock u) u (p .channel u v)
+  pub posted : (u v : ℕ) → AllOf (PostedBy (p .clock u) u) (p .channel u v)
   pub links : (a b : ℕ) → (a ≡ b → ⊥) → Link (sideOf p a b) (sideOf p b a)
 
 -- ---- messages
 
-pub sound-later : (c d u : ℕ) → c ≤ d → (ms : List Message) → AllSound c u ms → AllSound d u ms
-sound-later c d u l ms none = none
-sound-later c d u l ms (some {m = m} {ms = rest} s k) =
-    some {m = m} (record { timestamp-le = omega (arith, s .timestamp-le); bounded = s .bounded; sender = s .sender })
-    (sound-later c d u l rest k)
-
-sound-post : (c u : ℕ) (b : Bool) (m : Message) (ms : List Message) → Sound c u m → AllSound c u ms → AllSound c u (post b m ms)
-unfolding post
-sound-post c u false m ms s k = k
-sound-post c u true m ms s none = some s none
-sound-post c u true m ms s (some {m = x} {ms = rest} h k) = some h (sound-post c u true m rest s k)
-
-pub sound-tail : (c u : ℕ) (ms : List Message) → AllSound c u ms → AllSound c u (tail ms)
-sound-tail c u ms none = none
-sound-tail c u ms (some h k) = k
+posted-later : (c d u : ℕ) → c ≤ d → (m : Message) → PostedBy c u m → PostedBy d u m
+posted-later c d u l m s = record { timestamp-le = omega (arith, s .timestamp-le); bounded = s .bounded; sender = s .sender }
 
 -- ---- the network after an event at u that leaves l there, sent over the channels ch
 
@@ -104,13 +89,15 @@ module _ (p : Network) (u : ℕ) (l : Local) (ch : ℕ → ℕ → List Message)
   commit-nodes n inv settled a (inr d) = simp update-off (inv .nodes a)
 
   commit-posted : (n : ℕ) → Settled n u (l .clock) (l .neighbors) (l .forming) (l .row) → p .clock u ≤ l .clock
-      → ((a b : ℕ) → AllSound (p .clock a) a (ch a b)) → (a b : ℕ) → SameOrNot a u → AllSound (after .clock a) a (after .channel a b)
+      → ((a b : ℕ) → AllOf (PostedBy (p .clock a) a) (ch a b)) → (a b : ℕ) → SameOrNot a u
+      → AllOf (PostedBy (after .clock a) a) (after .channel a b)
   unfolding commit news
-  commit-posted n settled moved sound a b (inl e) =
-      let s : Sound (l .clock) u news = record { timestamp-le = omega arith; bounded = settled .times u; sender = settled .mine } in
-      let k : AllSound (l .clock) u (ch u b) = sound-later (p .clock u) (l .clock) u moved (ch u b) (sound u b) in
-      simp (e, row-at, update-at) (sound-post (l .clock) u (l .sent b) news (ch u b) s k)
-  commit-posted n settled moved sound a b (inr d) = simp (row-off, update-off) (sound a b)
+  commit-posted n settled moved posted a b (inl e) =
+      let s : PostedBy (l .clock) u news = record { timestamp-le = omega arith; bounded = settled .times u; sender = settled .mine } in
+      let k : AllOf (PostedBy (l .clock) u) (ch u b) =
+      all-weaker (PostedBy (p .clock u) u) (PostedBy (l .clock) u) (posted-later (p .clock u) (l .clock) u moved) (ch u b) (posted u b) in
+      simp (e, row-at, update-at) (post-all (PostedBy (l .clock) u) (l .sent b) news (ch u b) s k)
+  commit-posted n settled moved posted a b (inr d) = simp (row-off, update-off) (posted a b)
 
   commit-links : (n : ℕ) → Inv n p
       → ((a b : ℕ) → (a ≡ u → ⊥) → (b ≡ u → ⊥) → ch a b ≡ p .channel a b)
@@ -131,13 +118,13 @@ module _ (p : Network) (u : ℕ) (l : Local) (ch : ℕ → ℕ → List Message)
   -- what is left to show of an event: its node, the clock, the channels before it sends, and the links of its node
   pub commit-inv : (n : ℕ) → Inv n p → Settled n u (l .clock) (l .neighbors) (l .forming) (l .row)
       → p .clock u ≤ l .clock
-      → ((a b : ℕ) → AllSound (p .clock a) a (ch a b))
+      → ((a b : ℕ) → AllOf (PostedBy (p .clock a) a) (ch a b))
       → ((a b : ℕ) → (a ≡ u → ⊥) → (b ≡ u → ⊥) → ch a b ≡ p .channel a b)
       → ((b : ℕ) → (b ≡ u → ⊥) → LinkAfter b)
       → Inv n (commit p u l ch)
-  commit-inv n inv settled moved sound elsewhere around = record {
+  commit-inv n inv settled moved posted elsewhere around = record {
     nodes = λ a. commit-nodes n inv settled a (equal? a u);
-    posted = λ a b. commit-posted n settled moved sound a b (equal? a u);
+    posted = λ a b. commit-posted n settled moved posted a b (equal? a u);
     links = commit-links n inv elsewhere around;
   }
 

@@ -3,7 +3,6 @@
 use Prim.Native.Nat.{ℕ, suc, _≤_}
 use native.Mathlib.Omega.{arith}
 use mathlib.Core.Bool.{Bool, true, false}
-use mathlib.Core.List.{List, _∷_}
 use mathlib.Core.Logic.{inl, inr}
 use mathlib.Core.Path.{_≡_, refl, sym, _∙_}
 use lib.IntN.{pos}
@@ -11,15 +10,15 @@ use borrow.Author.Tests.{eq-eqb, ne-eqb}
 use Rattle.height.specs.declared.Height.{Height}
 use Rattle.height.proofs.OrderLaws.{clash}
 use Rattle.protocol.specs.Functions.{update}
-use Rattle.protocol.specs.Network.{Message, Network, upTo}
+use Rattle.protocol.specs.Network.{Network, upTo}
 use Rattle.protocol.specs.Rules.{downRule}
 use Rattle.protocol.specs.Step.{Event, up, down, receive, home, peer, heightAfter, sends, Local, carried}
 use Rattle.protocol.specs.Step.{cleared, commit}
 use Rattle.protocol.specs.declared.Rule.{Rule}
-use Rattle.protocol.proofs.Channels.{Cleared, isWhole, isTail, isGone, cleared-off, cleared-is}
-use Rattle.protocol.proofs.Invariant.{Sound, AllSound, none, some, Settled, sideOf, Inv, sound-tail, news}
+use Rattle.protocol.proofs.Channels.{cleared-off, cleared-is, cleared-all}
+use Rattle.protocol.proofs.Invariant.{PostedBy, Settled, sideOf, Inv, news}
 use Rattle.protocol.proofs.Invariant.{LinkAfter, commit-inv, SameBut}
-use Rattle.protocol.proofs.LinkLaws.{Told, tells, silent, spoken, speak}
+use Rattle.protocol.proofs.LinkLaws.{Informed, tells, silent, spoken, speak}
 use Rattle.protocol.proofs.LinkLaws.{drained}
 use Rattle.protocol.proofs.RuleLaws.{Bounded, later}
 use Rattle.protocol.proofs.RuleCases.{downCases, Sending}
@@ -27,23 +26,15 @@ use Rattle.protocol.proofs.RuleCases.{toAll, toOne, toNone, Kept}
 use Rattle.protocol.proofs.TestsLaws.{SameOrNot, equal?, not-both, update-at, update-off, update-all}
 
 -- what w hears of the rule at u, w not the event's own v
-told : (v : ℕ) (old h : Height) (r : Rule) → Sending v old h r → (w : ℕ) (b : Bool) → (w ≡ v → ⊥) → Told old h (sends v r w b) b
-told v old h r (toAll f) w b d = tells (f w b)
-told v old h r (toOne e f) w b d = silent (f w b ∙ ne-eqb w v d) e
-told v old h r (toNone e f) w b d = silent (f w b) e
+informed : (v : ℕ) (old h : Height) (r : Rule) → Sending v old h r → (w : ℕ) (b : Bool) → (w ≡ v → ⊥) → Informed old h (sends v r w b) b
+informed v old h r (toAll f) w b d = tells (f w b)
+informed v old h r (toOne e f) w b d = silent (f w b ∙ ne-eqb w v d) e
+informed v old h r (toNone e f) w b d = silent (f w b) e
 
-pub told-v : (v : ℕ) (old h : Height) (r : Rule) → Sending v old h r → Told old h (sends v r v true) true
-told-v v old h r (toAll f) = tells (f v true)
-told-v v old h r (toOne e f) = tells (f v true ∙ eq-eqb v v refl)
-told-v v old h r (toNone e f) = silent (f v true) e
-
-pub sound-head : (c u : ℕ) (m : Message) (ms : List Message) → AllSound c u (m ∷ ms) → Sound c u m
-sound-head c u m ms (some s k) = s
-
-cleared-sound : (c u : ℕ) (old new : List Message) → Cleared old new → AllSound c u old → AllSound c u new
-cleared-sound c u old new (isWhole e) h = rw e h
-cleared-sound c u old new (isTail e) h = rw e (sound-tail c u old h)
-cleared-sound c u old new (isGone e) h = rw e none
+pub informed-v : (v : ℕ) (old h : Height) (r : Rule) → Sending v old h r → Informed old h (sends v r v true) true
+informed-v v old h r (toAll f) = tells (f v true)
+informed-v v old h r (toOne e f) = tells (f v true ∙ eq-eqb v v refl)
+informed-v v old h r (toNone e f) = silent (f v true) e
 
 -- heights without a time
 pub unstarted : (c : ℕ) (h : Height) → h .level .tau .0 ≡ 0 → h .pair .nlts .0 ≡ pos 0 → Bounded c h
@@ -107,7 +98,7 @@ module _ (e : Event) where
       unfolding carried news drained spoken
       carried-keeps r kept at-v =
           commit-inv p u l (cleared p e) n inv settled (omega (arith, k .moved))
-          (λ a b. cleared-sound (p .clock a) a (p .channel a b) (cleared p e a b) (cleared-is p e a b) (inv .posted a b))
+          (λ a b. cleared-all (PostedBy (p .clock a) a) (p .channel a b) (cleared p e a b) (cleared-is p e a b) (inv .posted a b))
           (λ a b d f. cleared-apart p e a b (λ q _. d q) (λ _ q. f q)) (λ b d. around b d (equal? b v))
         where
           l : Local
@@ -140,4 +131,4 @@ module _ (e : Event) where
               )
               (speak (sideOf p u b) (sideOf p b u) (record { height = h; timestamp = suc c }) (sends v r b (upTo p u b))
               (rw (k .same .sameH u other) at (kept .falls))
-              (rw (k .same .sameH u other) at (told v (row u) h r (kept .sending) b (upTo p u b) f)) (inv .links u b (λ q. d (sym q))))
+              (rw (k .same .sameH u other) at (informed v (row u) h r (kept .sending) b (upTo p u b) f)) (inv .links u b (λ q. d (sym q))))

@@ -3,16 +3,16 @@
 use Prim.Native.Nat.{ℕ}
 use native.Mathlib.Omega.{arith}
 use mathlib.Core.Bool.{Bool, true, false, Bool·beq}
-use mathlib.Core.List.{List, [], _∷_}
+use mathlib.Core.List.{[]}
 use mathlib.Core.Logic.{inl, inr}
-use mathlib.Core.Path.{_≡_, refl, sym, _∙_, fun-ext}
+use mathlib.Core.Path.{_≡_, refl, sym, ap, _∙_, fun-ext}
 use lib.ListN.{length}
 use Rattle.height.proofs.OrderLaws.{clash}
 use Rattle.protocol.specs.Component.{Node, Two, Quiescent, OneLeader, pairQuiet, nodeQuiet, quiet}
 use Rattle.protocol.specs.History.{History, upIn, waiting, State}
 use Rattle.protocol.specs.Holds.{isEmpty}
-use Rattle.protocol.specs.Network.{Message, Network, upTo, own}
-use Rattle.protocol.proofs.Channels.{no-length}
+use Rattle.protocol.specs.Network.{Network, upTo, own}
+use Rattle.protocol.proofs.Channels.{no-length, is-empty}
 use Rattle.protocol.proofs.Good.{Good}
 use Rattle.protocol.proofs.Quiescence.{held, one-leader}
 use Rattle.protocol.proofs.Soundness.{diagonal}
@@ -49,10 +49,6 @@ beq-refl : (a : Bool) → Bool·beq a a ≡ true
 beq-refl true = refl
 beq-refl false = refl
 
-no-message : (ms : List Message) → isEmpty ms ≡ true → length ms ≡ 0
-no-message [] e = refl
-no-message (m ∷ ms) e = clash e refl
-
 module _ (n : ℕ) (s : State) (g : Good n s) where
   abbrev p : Network
   p = s .network
@@ -67,7 +63,7 @@ module _ (n : ℕ) (s : State) (g : Good n s) where
 
       empty : (u v : ℕ) → Two n u v → waiting (s .history) u v ≡ 0
       empty u v t =
-          let none : length (p .channel u v) ≡ 0 = no-message (p .channel u v) (and-left (isEmpty (p .channel u v)) _ (at u v t)) in
+          let none : length (p .channel u v) ≡ 0 = ap length (is-empty (p .channel u v) (and-left (isEmpty (p .channel u v)) _ (at u v t))) in
           omega (arith, g .told .counts u v)
 
       paired : (u v : ℕ) → Two n u v → upIn (s .history) u v ≡ upIn (s .history) v u

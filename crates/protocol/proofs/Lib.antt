@@ -2,6 +2,8 @@
 -- Said, SoundStep, Locality, Leaders, Runs, Cases and Theorems hold the results, the others lead to them.
 pub mod Said
 pub mod TestsLaws
+pub mod AllOf
+pub mod Channels
 pub mod RuleLaws
 pub mod RuleCases
 pub mod LinkLaws
@@ -9,7 +11,6 @@ pub mod Invariant
 pub mod Accepted
 pub mod Ranges
 pub mod RangesAfter
-pub mod Channels
 pub mod Kept
 pub mod StepKeeps
 pub mod Soundness

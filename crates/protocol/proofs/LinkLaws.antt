@@ -59,9 +59,9 @@ post-not-nil [] m e = cons-not-nil [] m e
 post-not-nil (k ∷ ms) m e = cons-not-nil (ms ++ (m ∷ [])) k e
 
 -- whether a height h is sent, by b, and what is known where it is not
-pub data Told (old h : Height) (b up : Bool) : Type 0 where
-  tells : b ≡ up → Told old h b up
-  silent : b ≡ false → h ≡ old → Told old h b up
+pub data Informed (old h : Height) (b up : Bool) : Type 0 where
+  tells : b ≡ up → Informed old h b up
+  silent : b ≡ false → h ≡ old → Informed old h b up
 
 -- ---- an event at s's node that does not concern t
 
@@ -108,7 +108,7 @@ unsent s t h down k = record {
   };
 }
 
-pub speak : (s t : Side) (m : Message) (b : Bool) → PairLe (m .height) (s .own) → Told (s .own) (m .height) b (isUp s)
+pub speak : (s t : Side) (m : Message) (b : Bool) → PairLe (m .height) (s .own) → Informed (s .own) (m .height) b (isUp s)
     → Link s t → Link (spoken s (m .height) (post b m (s .outgoing))) t
 unfolding spoken post
 speak s t m true falls (tells e) k = sent s t m falls (sym e) k
@@ -194,13 +194,13 @@ heard h view ms = record { neighbors = true; forming = false; own = h; view = vi
 
 -- m has come from t and a is sent back if b
 pub hear : (s t : Side) (m : Message) (ms : List Message) (a : Message) (b : Bool)
-    → t .outgoing ≡ m ∷ ms → isUp s ≡ true → Told (s .own) (a .height) b true
+    → t .outgoing ≡ m ∷ ms → isUp s ≡ true → Informed (s .own) (a .height) b true
     → PairLe (a .height) (m .height) → (b ≡ false → PairLe (m .height) (a .height))
     → Link s t → Link (heard (a .height) (m .height) (post b a (s .outgoing))) (drained t ms)
 unfolding heard drained post
-hear s t m ms a b q up told reaches back k = record {
+hear s t m ms a b q up informed reaches back k = record {
   there = record {
-    last = λ _. last-told b told;
+    last = λ _. last-informed b informed;
     idle = λ d. clash refl d;
     apart = λ l. refl;
     known = λ l u d. (at-end u d, rw (at-end u d) at reaches);
@@ -210,20 +210,20 @@ hear s t m ms a b q up told reaches back k = record {
     last = λ u. newest-tail (m .height) (t .own) ms (rw q at (k .here .last u));
     idle = λ d. cons-not-nil ms m (sym q ∙ k .here .idle d);
     apart = k .here .apart;
-    known = λ l u d. let z = unanswered b told d in rw (z .1) (k .here .known l up (z .2));
-    asked = λ f u d c. let e = at-end (rw f (or-true (t .neighbors))) c in (rw e at (back (unanswered b told d .0)), rw e at reaches);
+    known = λ l u d. let z = unanswered b informed d in rw (z .1) (k .here .known l up (z .2));
+    asked = λ f u d c. let e = at-end (rw f (or-true (t .neighbors))) c in (rw e at (back (unanswered b informed d .0)), rw e at reaches);
   };
 }
   where
     at-end : isUp t ≡ true → ms ≡ [] → m .height ≡ t .own
     at-end u d = rw (q, d) at (k .here .last u)
 
-    last-told : (b : Bool) → Told (s .own) (a .height) b true → newest (a .height) (post b a (s .outgoing)) ≡ a .height
-    last-told true t = newest-post (a .height) (s .outgoing) a
-    last-told false (tells e) = clash e refl
-    last-told false (silent e d) = rw d (k .there .last up)
+    last-informed : (b : Bool) → Informed (s .own) (a .height) b true → newest (a .height) (post b a (s .outgoing)) ≡ a .height
+    last-informed true t = newest-post (a .height) (s .outgoing) a
+    last-informed false (tells e) = clash e refl
+    last-informed false (silent e d) = rw d (k .there .last up)
 
-    unanswered : (b : Bool) → Told (s .own) (a .height) b true → post b a (s .outgoing) ≡ [] → (b ≡ false) × (a .height ≡ s .own) × (s .outgoing ≡ [])
+    unanswered : (b : Bool) → Informed (s .own) (a .height) b true → post b a (s .outgoing) ≡ [] → (b ≡ false) × (a .height ≡ s .own) × (s .outgoing ≡ [])
     unanswered true t e = post-not-nil (s .outgoing) a e
     unanswered false (tells d) e = clash d refl
     unanswered false (silent x d) e = (refl, d, e)

@@ -3,7 +3,7 @@
 use Prim.Native.Nat.{ℕ, zero, suc, _≤_}
 use native.Mathlib.Omega.{arith}
 use mathlib.Core.Bool.{Bool, true, false, cond, _&&_}
-use mathlib.Core.List.{List, [], _∷_}
+use mathlib.Core.List.{List, _∷_}
 use mathlib.Core.Path.{_≡_, refl}
 use lib.IntN.{ℤ, pos, negsuc, sucℤ, predℤ}
 use lib.Signed.{ltZ}
@@ -20,6 +20,7 @@ use Rattle.protocol.specs.Rules.{downRule, larger, largest, deltas, smal
 use Rattle.protocol.specs.Step.{heightAfter}
 use Rattle.protocol.specs.declared.Rule.{Rule}
 use Rattle.protocol.specs.declared.Rule.the-variants.{ElectSelf, StartNewRefLevel}
+use Rattle.protocol.proofs.AllOf.{AllOf, none, more}
 use Rattle.protocol.proofs.RuleLaws.{byCases}
 use Rattle.protocol.proofs.RuleCases.{Verdict, isA, isR, isQ, isF, isE, isS, isP, downCases}
 use Rattle.protocol.proofs.TestsLaws.{and-left}
@@ -60,23 +61,19 @@ largest-fits n (suc k) N row h = go (largest-fits n k N row h)
 abbrev High : ℤ → Type 0
 High d = ltZ greatestDelta d ≡ false
 
-data AllHigh : List ℤ → Type 0 where
-  hnil : AllHigh []
-  hcons : {d : ℤ} {ds : List ℤ} → High d → AllHigh ds → AllHigh (d ∷ ds)
-
-smallestFrom-high : (d : ℤ) (ds : List ℤ) → High d → AllHigh ds → High (smallestFrom d ds)
-smallestFrom-high d ds h hnil = h
-smallestFrom-high d ds h (hcons {d = x} {ds = rest} k t) =
+smallestFrom-high : (d : ℤ) (ds : List ℤ) → High d → AllOf High ds → High (smallestFrom d ds)
+smallestFrom-high d ds h none = h
+smallestFrom-high d ds h (more {x = x} {xs = rest} k t) =
     smallestFrom-high (smaller d x) rest (byCases High (ltZ d x) d x (λ e. h) (λ e. k)) t
 
-smallest-high : (ds : List ℤ) → AllHigh ds → High (smallest ds)
-smallest-high ds hnil = refl
-smallest-high ds (hcons {d = x} {ds = rest} k t) = smallestFrom-high x rest k t
+smallest-high : (ds : List ℤ) → AllOf High ds → High (smallest ds)
+smallest-high ds none = refl
+smallest-high ds (more {x = x} {xs = rest} k t) = smallestFrom-high x rest k t
 
 deltas-high : (k : ℕ) (N : ℕ → Bool) (row : ℕ → Height) (l : ReferenceLevel) → ((w : ℕ) → N w ≡ true → High (row w .delta))
-    → AllHigh (deltas k N row l)
+    → AllOf High (deltas k N row l)
 unfolding deltas
-deltas-high zero N row l h = hnil
+deltas-high zero N row l h = none
 deltas-high (suc k) N row l h = go (deltas-high k N row l h)
   where
     test : Bool
@@ -85,10 +82,10 @@ deltas-high (suc k) N row l h = go (deltas-high k N row l h)
     rest : List ℤ
     rest = deltas k N row l
 
-    go : AllHigh rest → AllHigh (cond test (row (suc k) .delta ∷ rest) rest)
+    go : AllOf High rest → AllOf High (cond test (row (suc k) .delta ∷ rest) rest)
     go ih =
-        byCases AllHigh test (row (suc k) .delta ∷ rest) rest
-        (λ e. hcons (h (suc k) (and-left (N (suc k)) _ e)) ih) (λ e. ih)
+        byCases (AllOf High) test (row (suc k) .delta ∷ rest) rest
+        (λ e. more (h (suc k) (and-left (N (suc k)) _ e)) ih) (λ e. ih)
 
 pred-high : (d : ℤ) → High d → High (predℤ d)
 pred-high (pos zero) h = refl

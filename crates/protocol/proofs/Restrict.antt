@@ -1,20 +1,18 @@
--- A sound network is as fresh outside 1 to n: its numbers at the nodes determine it.
--- Assumes that the network is sound, by facts (Soundness.antt).
+-- Functions of nodes and of pairs cut down to 1 to n; a sound network is as fresh outside: its numbers at the nodes determine it.
+-- Assumes, of the network, that it is sound, by facts (Soundness.antt).
 use Prim.Native.Nat.{ℕ}
 use mathlib.Core.Bool.{false}
 use mathlib.Core.List.{[]}
 use mathlib.Core.Logic.{inl, inr}
 use mathlib.Core.Path.{_≡_, sym, fun-ext}
-use borrow.Author.Tests.{le-leb, ne-eqb}
-use Rattle.height.proofs.OrderLaws.{clash, not-true-is-false}
+use borrow.Author.Tests.{ne-eqb}
+use Rattle.height.proofs.OrderLaws.{not-true-is-false}
 use Rattle.protocol.specs.Component.{Node}
 use Rattle.protocol.specs.Network.{Network, isNode, fresh, atNodes, atPairs, restrict}
 use Rattle.protocol.proofs.Soundness.{Fits}
-pub use Rattle.protocol.proofs.TestsLaws.{is-node}
-use Rattle.protocol.proofs.TestsLaws.{Choice, yes!, no!, choice, SameOrNot, equal?}
+use Rattle.protocol.proofs.TestsLaws.{Choice, yes!, no!, choice, SameOrNot, equal?, is-node, no-node}
 
-pub no-node : (n u : ℕ) → isNode n u ≡ false → Node n u → ⊥
-no-node n u e s = clash (rw (le-leb 1 u (s .low), le-leb u n (s .high))) e
+-- ---- functions that agree outside 1 to n
 
 pub pairs-is : {A : Type 0} (n : ℕ) (f g : ℕ → ℕ → A)
     → ((u v : ℕ) → (Node n u → ⊥) → g u v ≡ f u v)
@@ -33,6 +31,25 @@ nodes-is n f g out = fun-ext λ u. go u (choice (isNode n u))
     go : (u : ℕ) → Choice (isNode n u) → atNodes n f g u ≡ f u
     go u (no! e) = rw e (out u (no-node n u e))
     go u (yes! e) = rw e
+
+-- ---- functions that agree at the nodes
+
+pub same-nodes : {A : Type 0} (n : ℕ) (f g d : ℕ → A) → ((u : ℕ) → Node n u → f u ≡ g u) → atNodes n f d ≡ atNodes n g d
+same-nodes n f g d h = fun-ext λ u. go u (choice (isNode n u))
+  where
+    go : (u : ℕ) → Choice (isNode n u) → atNodes n f d u ≡ atNodes n g d u
+    go u (yes! s) = rw s (h u (is-node n u s))
+    go u (no! s) = rw s
+
+pub same-pairs : {A : Type 0} (n : ℕ) (f g d : ℕ → ℕ → A) → ((u v : ℕ) → Node n u → Node n v → f u v ≡ g u v) → atPairs n f d ≡ atPairs n g d
+same-pairs n f g d h = fun-ext λ u. fun-ext λ v. go u v (choice (isNode n u)) (choice (isNode n v))
+  where
+    go : (u v : ℕ) → Choice (isNode n u) → Choice (isNode n v) → atPairs n f d u v ≡ atPairs n g d u v
+    go u v (no! s) t = rw s
+    go u v (yes! s) (no! t) = rw (s, t)
+    go u v (yes! s) (yes! t) = rw (s, t) (h u v (is-node n u s) (is-node n v t))
+
+-- ---- a sound network
 
 pub restrict-is : (n : ℕ) (p : Network) → Fits n p → restrict n p ≡ p
 unfolding restrict

@@ -17,6 +17,7 @@ use Rattle.protocol.specs.Refusal.{nextAll, answers}
 use Rattle.protocol.specs.Run.{Call, restore, Reading, got, Saved, RunState, sameBytes, savedAt, lastSave, act, Fair}
 use Rattle.protocol.specs.Run.{fairEvent, fairSave, fairSaved, fairRefused, AllFair, fairNil, fairCons, perform, startOfRun}
 use Rattle.protocol.specs.Step.{Event}
+use Rattle.protocol.proofs.AllOf.{AllOf, none, more}
 use Rattle.protocol.proofs.Good.{Good, good-started, good-advance}
 use Rattle.protocol.proofs.Holding.{sound-holds}
 use Rattle.protocol.proofs.Leaders.{quiet-leader}
@@ -49,53 +50,51 @@ same-bytes (x ∷ xs) (y ∷ ys) e =
 
 module _ (write : ℕ → Network → List ℕ) (read : ℕ → List ℕ → Reading) (n : ℕ)
     (back : (p : Network) → sound n p ≡ true → restrict n p ≡ p → read n (write n p) ≡ got p) where
-  -- each save holds the image of a good state
-  pub data Kept : List Saved → Type 0 where
-    knil : Kept []
-    kcons : {s : Saved} {ss : List Saved} → s .bytes ≡ write n (s .state .network) → Good n (s .state) → Kept ss → Kept (s ∷ ss)
+  -- a save holds the image of a good state
+  pub record Written (s : Saved) : Type 0 where
+    pub bytes-are : s .bytes ≡ write n (s .state .network)
+    pub good : Good n (s .state)
 
   pub record Sane (w : RunState) : Type 0 where
     pub good : Good n (w .now)
-    pub kept : Kept (w .saves)
+    pub saves : AllOf Written (w .saves)
 
-  pub record Found (b : List ℕ) (s : State) : Type 0 where
-    pub bytes-are : b ≡ write n (s .network)
-    pub good : Good n s
-
-  pub found : (b : List ℕ) (ss : List Saved) → Kept ss → (s : State) → lastSave b ss ≡ savedAt s → Found b s
+  -- the bytes and the state of the last save that wrote these bytes
+  pub found : (b : List ℕ) (ss : List Saved) → AllOf Written ss → (s : State) → lastSave b ss ≡ savedAt s → Written (record { bytes = b; state = s })
   found b [] k s e = let z : _≡_ {A = ℕ} 0 1 = cc in absurd (omega arith)
-  found b (x ∷ ss) (kcons i g k) s e = go (found b ss k s) (choice (sameBytes b (x .bytes)))
+  found b (x ∷ ss) (more h k) s e = go (found b ss k s) (choice (sameBytes b (x .bytes)))
     where
-      go : (lastSave b ss ≡ savedAt s → Found b s) → Choice (sameBytes b (x .bytes)) → Found b s
+      go : (lastSave b ss ≡ savedAt s → Written (record { bytes = b; state = s })) → Choice (sameBytes b (x .bytes))
+          → Written (record { bytes = b; state = s })
       go ih (yes! z) =
           let q : savedAt (x .state) ≡ savedAt s = rw z at e in
           let t : x .state ≡ s = cc in
-          rw (← t) (record { bytes-are = same-bytes b (x .bytes) z ∙ i; good = g })
+          rw (← t) (record { bytes-are = same-bytes b (x .bytes) z ∙ h .bytes-are; good = h .good })
       go ih (no! z) = ih (rw z at e)
 
   -- reading the bytes of an earlier save gives the network at that save
   pub read-saved : (w : RunState) (b : List ℕ) (s : State) → Sane w → lastSave b (w .saves) ≡ savedAt s → read n b ≡ got (s .network)
   read-saved w b s sane e =
-      let f = found b (w .saves) (sane .kept) s e in
+      let f = found b (w .saves) (sane .saves) s e in
       ap (read n) (f .bytes-are)
       ∙ back (s .network) (sound-holds n (s .network) (f .good .fits)) (restrict-is n (s .network) (f .good .fits))
 
   pub act-sane : (w : RunState) (c : Call) → Sane w → Fair write read n w c → Sane (act write read n w c)
   act-sane w c s (fairEvent m e) =
-      byCases Sane (eqb m n) _ w (λ i. record { good = good-advance n (w .now) e (s .good); kept = s .kept }) (λ i. s)
+      byCases Sane (eqb m n) _ w (λ i. record { good = good-advance n (w .now) e (s .good); saves = s .saves }) (λ i. s)
   act-sane w c s (fairSave m room) =
       byCases Sane (eqb m n && leb (length (write n (w .now .network))) room) _ w
-      (λ i. record { good = s .good; kept = kcons refl (s .good) (s .kept) }) (λ i. s)
+      (λ i. record { good = s .good; saves = more (record { bytes-are = refl; good = s .good }) (s .saves) }) (λ i. s)
   act-sane w c s (fairRefused b k e) = rw e s
   act-sane w c s (fairSaved b t e) =
-      rw (read-saved w b t s e, e) (record { good = found b (w .saves) (s .kept) t e .good; kept = s .kept })
+      rw (read-saved w b t s e, e) (record { good = found b (w .saves) (s .saves) t e .good; saves = s .saves })
 
   pub perform-sane : (w : RunState) (cs : List Call) → Sane w → AllFair write read n w cs → Sane (perform write read n w cs)
   perform-sane w cs s fairNil = s
   perform-sane w cs s (fairCons {c = c} {cs = rest} f fs) = perform-sane (act write read n w c) rest (act-sane w c s f) fs
 
   pub run-sane : (cs : List Call) → AllFair write read n startOfRun cs → Sane (perform write read n startOfRun cs)
-  run-sane cs fair = perform-sane startOfRun cs (record { good = good-started n; kept = knil }) fair
+  run-sane cs fair = perform-sane startOfRun cs (record { good = good-started n; saves = none }) fair
 
   -- after every list of calls
   pub run-promise : (cs : List Call) → AllFair write read n startOfRun cs → Promise n (perform write read n startOfRun cs .now)

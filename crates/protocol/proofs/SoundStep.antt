@@ -19,14 +19,16 @@ use Rattle.protocol.specs.Holds.{viewHolds, channelHolds, placeHolds, no
 use Rattle.protocol.specs.Network.{Message, Network, isNode, upTo, capacity, fresh, atNodes, atPairs, restrict}
 use Rattle.protocol.specs.Refusal.{accepts, next}
 use Rattle.protocol.specs.Step.{Event, step}
+use Rattle.protocol.proofs.AllOf.{AllOf, none, more}
+use Rattle.protocol.proofs.Channels.{is-empty}
 use Rattle.protocol.proofs.Good.{accepts-accepted}
 use Rattle.protocol.proofs.Holding.{sound-holds}
 use Rattle.protocol.proofs.Ranges.{HeightFits, height-fits, zero-height}
-use Rattle.protocol.proofs.Restrict.{no-node, restrict-is}
+use Rattle.protocol.proofs.Restrict.{restrict-is}
 use Rattle.protocol.proofs.RuleLaws.{byCases}
-use Rattle.protocol.proofs.Soundness.{Ranged, AllFit, fnil, fcons, Fits}
+use Rattle.protocol.proofs.Soundness.{Ranged, MessageFits, Fits}
 use Rattle.protocol.proofs.StepFits.{step-fits}
-use Rattle.protocol.proofs.TestsLaws.{Choice, yes!, no!, choice, SameOrNot, equal?, and-left, and-right, is-node, every-at}
+use Rattle.protocol.proofs.TestsLaws.{Choice, yes!, no!, choice, SameOrNot, equal?, and-left, and-right, is-node, no-node, every-at}
 
 -- ---- outside 1 to n
 
@@ -39,28 +41,24 @@ pairs-out {A = A} n f g q u v e = let r : atPairs n f g u v ≡ g u v = rw e in 
 
 -- ---- channels
 
-messages-fit : (n u : ℕ) (ms : List Message) → all (messageHolds n u) ms ≡ true → AllFit n u ms
+messages-fit : (n u : ℕ) (ms : List Message) → all (messageHolds n u) ms ≡ true → AllOf (MessageFits n u) ms
 unfolding all messageHolds
-messages-fit n u [] e = fnil
+messages-fit n u [] e = none
 messages-fit n u (m ∷ ms) e =
     let h = heightHolds n u (m .height) in
     let t = leb (m .timestamp) lastTime in
     let first = and-left (h && t) (all (messageHolds n u) ms) e in
-    fcons (record { height = height-fits n u (m .height) (and-left h t first); timestamp-le = leb-true (m .timestamp) lastTime (and-right h t first) })
+    more (record { height = height-fits n u (m .height) (and-left h t first); timestamp-le = leb-true (m .timestamp) lastTime (and-right h t first) })
     (messages-fit n u ms (and-right (h && t) (all (messageHolds n u) ms) e))
-
-is-empty : (ms : List Message) → isEmpty ms ≡ true → ms ≡ []
-is-empty [] e = refl
-is-empty (m ∷ ms) e = clash e refl
 
 -- what `Fits` says of u's channel ms, up or not
 record Carries (n u : ℕ) (isUp : Bool) (ms : List Message) : Type 0 where
-  messages : AllFit n u ms
+  messages : AllOf (MessageFits n u) ms
   short : length ms ≤ 8
   idle : isUp ≡ false → ms ≡ []
 
 carries-none : (n u : ℕ) (isUp : Bool) (ms : List Message) → ms ≡ [] → Carries n u isUp ms
-carries-none n u isUp ms e = rw e (record { messages = fnil; short = omega arith; idle = λ i. refl })
+carries-none n u isUp ms e = rw e (record { messages = none; short = omega arith; idle = λ i. refl })
 
 channel-fits : (n : ℕ) (p : Network) (u v : ℕ) → channelHolds n p u v ≡ true → Carries n u (upTo p u v) (p .channel u v)
 unfolding channelHolds

@@ -3,7 +3,7 @@
 use Prim.Native.Nat.{ℕ, _<_, _≤_}
 use native.Mathlib.Omega.{arith}
 use mathlib.Core.Bool.{Bool, true, false, _||_}
-use mathlib.Core.List.{List, [], _∷_, tail}
+use mathlib.Core.List.{List, []}
 use mathlib.Core.Logic.{_⊎_, inl, inr}
 use mathlib.Core.Path.{_≡_, refl, sym}
 use lib.ListN.{length}
@@ -18,7 +18,8 @@ use Rattle.protocol.specs.Step.{sends, Local, post, commit}
 use Rattle.protocol.specs.declared.Rule.{Rule}
 use Rattle.protocol.specs.declared.Rule.the-variants.{AdoptLpIfPriority, ElectSelf, ReflectRefLevel, Ignored}
 use Rattle.protocol.specs.declared.Rule.the-variants.{PropagateLargestRefLevel, NoChange, Reply, StartNewRefLevel, ChannelUp}
-use Rattle.protocol.proofs.Channels.{length-post, Cleared, isWhole, isTail, isGone, cleared-short, cleared-nil}
+use Rattle.protocol.proofs.AllOf.{AllOf, none}
+use Rattle.protocol.proofs.Channels.{length-post, post-all, Cleared, cleared-short, cleared-nil, cleared-all}
 use Rattle.protocol.proofs.Ranges.{HeightFits}
 use Rattle.protocol.proofs.RangesAfter.{zero-level, zero-delta}
 use Rattle.protocol.proofs.TestsLaws.{Choice, yes!, no!, choice, SameOrNot, equal?}
@@ -44,37 +45,15 @@ pub record MessageFits (n u : ℕ) (m : Message) : Type 0 where
   pub height : HeightFits n u (m .height)
   pub timestamp-le : m .timestamp ≤ lastTime
 
-pub data AllFit (n u : ℕ) : List Message → Type 0 where
-  fnil : AllFit n u []
-  fcons : {m : Message} {ms : List Message} → MessageFits n u m → AllFit n u ms → AllFit n u (m ∷ ms)
-
 pub record Fits (n : ℕ) (p : Network) : Type 0 where
   pub nodes : (u : ℕ) → Ranged n u (p .clock u) (p .neighbors u) (p .forming u) (p .height u)
-  pub messages : (u v : ℕ) → AllFit n u (p .channel u v)
+  pub messages : (u v : ℕ) → AllOf (MessageFits n u) (p .channel u v)
   pub lengths : (u v : ℕ) → length (p .channel u v) ≤ 8
   pub idle : (u v : ℕ) → upTo p u v ≡ false → p .channel u v ≡ []
 
 -- no channel leads from a node to itself
 pub diagonal : (n : ℕ) (p : Network) → Fits n p → (u : ℕ) → p .channel u u ≡ []
 diagonal n p fits u = fits .idle u u (rw (fits .nodes u .selfN, fits .nodes u .selfF))
-
-fit-post : (n u : ℕ) (b : Bool) (m : Message) (ms : List Message) → MessageFits n u m → AllFit n u ms → AllFit n u (post b m ms)
-unfolding post
-fit-post n u false m ms s k = k
-fit-post n u true m ms s fnil = fcons s fnil
-fit-post n u true m ms s (fcons {m = x} {ms = rest} h k) = fcons h (fit-post n u true m rest s k)
-
-fit-tail : (n u : ℕ) (ms : List Message) → AllFit n u ms → AllFit n u (tail ms)
-fit-tail n u ms fnil = fnil
-fit-tail n u ms (fcons h k) = k
-
-pub fit-head : (n u : ℕ) (m : Message) (ms : List Message) → AllFit n u (m ∷ ms) → MessageFits n u m
-fit-head n u m ms (fcons h k) = h
-
-cleared-fit : (n u : ℕ) (old new : List Message) → Cleared old new → AllFit n u old → AllFit n u new
-cleared-fit n u old new (isWhole e) h = rw e h
-cleared-fit n u old new (isTail e) h = rw e (fit-tail n u old h)
-cleared-fit n u old new (isGone e) h = rw e fnil
 
 -- ---- the network after an event at u that leaves l there, sent over the channels ch
 
@@ -101,13 +80,13 @@ module _ (n : ℕ) (p : Network) (u : ℕ) (l : Local) (ch : ℕ → ℕ → Lis
       nodes a (inl e) = simp (e, update-at) mine
       nodes a (inr d) = simp update-off (fits .nodes a)
 
-      fit : (a b : ℕ) → AllFit n a (ch a b)
-      fit a b = cleared-fit n a (p .channel a b) (ch a b) (clear a b) (fits .messages a b)
+      fit : (a b : ℕ) → AllOf (MessageFits n a) (ch a b)
+      fit a b = cleared-all (MessageFits n a) (p .channel a b) (ch a b) (clear a b) (fits .messages a b)
 
-      messages : (a b : ℕ) → SameOrNot a u → AllFit n a (q .channel a b)
+      messages : (a b : ℕ) → SameOrNot a u → AllOf (MessageFits n a) (q .channel a b)
       messages a b (inl e) =
           let s : MessageFits n u news = record { height = mine .own st; timestamp-le = mine .clock-le } in
-          simp (e, row-at) (fit-post n u (l .sent b) news (ch u b) s (fit u b))
+          simp (e, row-at) (post-all (MessageFits n u) (l .sent b) news (ch u b) s (fit u b))
       messages a b (inr d) = simp row-off (fit a b)
 
       short : (a b : ℕ) → length (ch a b) ≤ 8
@@ -164,7 +143,7 @@ fresh-fits n = record {
     apart = λ v i. clash i refl;
     outside = λ d. (refl, (λ v. refl), (λ v. refl), refl);
   };
-  messages = λ u v. fnil;
+  messages = λ u v. none;
   lengths = λ u v. omega arith;
   idle = λ u v i. refl;
 }

@@ -22,6 +22,7 @@ use Rattle.protocol.specs.Step.{localDown, localIgnored, localTaken, loc
 use Rattle.protocol.specs.declared.Rule.{Rule}
 use Rattle.protocol.specs.declared.Rule.the-variants.{Ignored, ChannelUp}
 use Rattle.protocol.proofs.Accepted.{Accepted, home-node, peer-node}
+use Rattle.protocol.proofs.AllOf.{all-head}
 use Rattle.protocol.proofs.Channels.{cleared-is, cleared-nil}
 use Rattle.protocol.proofs.Invariant.{SameBut, same-all, same-forming, same-updated}
 use Rattle.protocol.proofs.Kept.{down-silent}
@@ -29,7 +30,7 @@ use Rattle.protocol.proofs.Ranges.{HeightFits}
 use Rattle.protocol.proofs.RangesAfter.{fits-receipt, fits-down}
 use Rattle.protocol.proofs.RuleLaws.{byCases}
 use Rattle.protocol.proofs.RuleCases.{verdict}
-use Rattle.protocol.proofs.Soundness.{Ranged, Fits, fit-head, commit-fits, sends-in, sends-down, either}
+use Rattle.protocol.proofs.Soundness.{Ranged, MessageFits, Fits, commit-fits, sends-in, sends-down, either}
 use Rattle.protocol.proofs.TestsLaws.{SameOrNot, equal?, every-at, update-at, update-off, cell-at, update-all}
 
 -- l at u is within the ranges if the tests for clock, depth and room pass
@@ -240,7 +241,7 @@ module _ (n : ℕ) (p : Network) (fits : Fits n p) (u v : ℕ) (su : Node n u) (
       go (m ∷ ms) e =
           subst G (sym (ap (localReceipt n p u v) e))
           (byCases G (upTo p u v) (localTaken n p u v m) (localIgnored n p u v (m .timestamp))
-          (λ i. taken-fits m (fit-head n v m ms (rw e at (fits .messages v u)) .height)) (λ i. ignored-fits m))
+          (λ i. taken-fits m (all-head (MessageFits n v) m ms (rw e at (fits .messages v u)) .height)) (λ i. ignored-fits m))
 
 pub step-fits : (n : ℕ) (p : Network) (e : Event) → Fits n p → Accepted n p e → Fits n (step n p e)
 unfolding step

@@ -19,7 +19,8 @@ use Rattle.protocol.specs.Step.{localDown, localIgnored, localTaken, loc
 use Rattle.protocol.specs.declared.Rule.{Rule}
 use Rattle.protocol.specs.declared.Rule.the-variants.{Ignored, ChannelUp}
 use Rattle.protocol.proofs.Accepted.{Accepted}
-use Rattle.protocol.proofs.Invariant.{Sound, none, some, sideOf, Inv, news}
+use Rattle.protocol.proofs.AllOf.{none, all-head}
+use Rattle.protocol.proofs.Invariant.{PostedBy, sideOf, Inv, news}
 use Rattle.protocol.proofs.Invariant.{LinkAfter, same-all, same-forming, same-updated}
 use Rattle.protocol.proofs.LinkLaws.{Half, Link, raised}
 use Rattle.protocol.proofs.LinkLaws.{raise, dropped, drop, drained, ignore, heard, hear}
@@ -27,7 +28,7 @@ use Rattle.protocol.proofs.RuleLaws.{byCases, Bounded, later, not-sink-
 use Rattle.protocol.proofs.RuleCases.{verdict}
 use Rattle.protocol.proofs.RuleCases.{toOne, toNone, Kept, Answered, kept-still, answered, kept-down}
 use Rattle.protocol.proofs.TestsLaws.{update-at, update-off, row-at, row-off, update-self}
-use Rattle.protocol.proofs.Kept.{told-v, sound-head, unstarted, down-silent, Changed, times, seen, mine, selfN, selfF, carried-keeps}
+use Rattle.protocol.proofs.Kept.{informed-v, unstarted, down-silent, Changed, times, seen, mine, selfN, selfF, carried-keeps}
 
 -- ---- the events
 
@@ -174,8 +175,8 @@ module _ (n : ℕ) (p : Network) (inv : Inv n p) (u v : ℕ) (other : u ≡ v �
         h : Height
         h = heightAfter n N row u v (suc c) r
 
-        first : Sound (p .clock v) v m
-        first = sound-head (p .clock v) v m ms (rw queue at (inv .posted v u))
+        first : PostedBy (p .clock v) v m
+        first = all-head (PostedBy (p .clock v) v) m ms (rw queue at (inv .posted v u))
 
         row-v : row v ≡ m .height
         row-v = update-at (p .height u) v (m .height)
@@ -208,7 +209,7 @@ module _ (n : ℕ) (p : Network) (inv : Inv n p) (u v : ℕ) (other : u ≡ v �
               taken-v,
             )
             (hear (sideOf p u v) (sideOf p v u) m ms (record { height = h; timestamp = suc c }) (sends v r v true) queue isup
-            (rw row-u at (told-v v (row u) h r (reply .kept .sending))) (rw row-v at (reply .reaches)) (λ z. rw row-v at (reply .back z)) link)
+            (rw row-u at (informed-v v (row u) h r (reply .kept .sending))) (rw row-v at (reply .reaches)) (λ z. rw row-v at (reply .back z)) link)
 
   receipt-keeps : 1 ≤ v → v ≤ n → isEmpty (p .channel v u) ≡ false → Inv n (step n p (receive v u))
   unfolding step

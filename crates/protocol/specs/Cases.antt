@@ -11,7 +11,7 @@ use Rattle.protocol.specs.Answer.{Said}
 use Rattle.protocol.specs.Component.{quiet}
 use Rattle.protocol.specs.Functions.{update}
 use Rattle.protocol.specs.Holds.{sound}
-use Rattle.protocol.specs.Network.{Message, Network, fresh}
+use Rattle.protocol.specs.Network.{Network, fresh}
 use Rattle.protocol.specs.Refusal.{answers, nextAll}
 use Rattle.protocol.specs.Step.{Event, up, down, receive}
 use Rattle.protocol.specs.Times.{timely}

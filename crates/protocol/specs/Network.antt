@@ -1,9 +1,8 @@
 -- What a node holds, and the fresh network: document 01, "What a station holds".
 -- A network (document 01: plot) is functions of node numbers. Outside 1 to n a grown network stays as the fresh one.
 use Prim.Native.Nat.{ℕ}
-use mathlib.Core.Bool.{Bool, true, false, cond, _&&_, _||_}
-use mathlib.Core.List.{List, [], _∷_}
-use mathlib.Core.Path.{_≡_}
+use mathlib.Core.Bool.{Bool, false, cond, _&&_, _||_}
+use mathlib.Core.List.{List, []}
 use lib.Dec.{eqb, leb}
 use lib.IntN.{pos}
 use Rattle.height.specs.declared.Height.{Height}

@@ -1,7 +1,7 @@
 -- The refusals of an event and their order: document 01, "Returned numbers", 3, then 4, 5 or 6, then 7, 8, 9.
 -- (1 and 2 are about the lent tables.) A refused event changes nothing.
 use Prim.Native.Nat.{ℕ}
-use mathlib.Core.Bool.{Bool, true, false, not, cond, _&&_, _||_}
+use mathlib.Core.Bool.{Bool, false, not, cond, _&&_, _||_}
 use mathlib.Core.List.{List, [], _∷_}
 use lib.Dec.{eqb, ltb}
 use lib.IntN.{ℤ}

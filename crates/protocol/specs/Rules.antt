@@ -1,7 +1,7 @@
 -- Which rule a down or a receipt applies: document 01, "The three events".
 -- N and `row` are u's as they stand when the rule is chosen: v has left them after a down, and is stored after a receipt.
 use Prim.Native.Nat.{ℕ, zero, suc}
-use mathlib.Core.Bool.{Bool, true, false, not, cond, _&&_, _||_}
+use mathlib.Core.Bool.{Bool, not, cond, _&&_, _||_}
 use mathlib.Core.List.{List, [], _∷_}
 use lib.Dec.{eqb, ltb}
 use lib.IntN.{ℤ, pos}

@@ -4,35 +4,20 @@ use Prim.Native.Nat.{ℕ, _+_, _-_, _*_, _/_, _%_, _^_, _≤_, _<_}
 use native.Mathlib.Omega.{arith}
 use mathlib.Core.Bool.{Bool, true, false, not, _||_}
 use mathlib.Core.List.{List}
-use mathlib.Core.Path.{_≡_, refl, sym, ap, _∙_}
-use borrow.Author.Tests.{lt-ltb, le-ltb, le-leb, lt-leb, leb-true, ltb-true, ltb-false, leb-false}
+use mathlib.Core.Path.{_≡_, sym, ap, _∙_}
+use borrow.Author.Tests.{lt-ltb, le-ltb, le-leb, lt-leb, leb-true, ltb-true, ltb-false, leb-false, not-false}
 use lib.Dec.{leb, ltb}
 use lib.ListN.{length, take, drop}
 use lib.Seq.{drop-drop}
 use denote.Ref.{now}
 use Rattle.bits.specs.Bits.{number, unpacked, field}
 use Rattle.bits.proofs.Bytes.{unpacked-drop}
-use Rattle.height.proofs.OrderLaws.{clash}
-use Rattle.protocol.proofs.TestsLaws.{Choice, yes!, no!, choice, and-left, and-right}
+use Rattle.protocol.proofs.TestsLaws.{Choice, yes!, no!, choice, and-left, and-right, neither-left, neither-right}
 use Rattle.tables.proofs.RowsLaws.{rest-is}
 use Rattle.reader.specs.Fields.{within, saidField, saidTaken, saidSkipped, placed, takeOn, skipOn, read, movedTo, takeFrom, skipFrom}
 use Rattle.reader.specs.declared.Reader.{Reader}
 use Rattle.reader.specs.declared.Skipped.{Skipped}
 use Rattle.reader.specs.declared.Taken.{Taken}
-
--- ---- tests that do not hold
-
-pub neither-left : (a b : Bool) → (a || b) ≡ false → a ≡ false
-neither-left true b e = e
-neither-left false b e = refl
-
-pub neither-right : (a b : Bool) → (a || b) ≡ false → b ≡ false
-neither-right true b e = clash refl e
-neither-right false b e = e
-
-pub not-false : (b : Bool) → not b ≡ false → b ≡ true
-not-false true e = refl
-not-false false e = sym e
 
 -- ---- bits inside the bytes
 

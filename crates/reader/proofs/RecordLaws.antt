@@ -5,7 +5,7 @@ use native.Mathlib.Omega.{arith}
 use mathlib.Core.Bool.{Bool, true, false, not, _||_}
 use mathlib.Core.List.{List}
 use mathlib.Core.Path.{_≡_, refl, ap, _∙_}
-use borrow.Author.Tests.{eqb-true, ltb-false}
+use borrow.Author.Tests.{eqb-true, ltb-false, not-false}
 use lib.Dec.{eqb, ltb}
 use lib.ListN.{length, take, drop}
 use Rattle.bits.specs.Bits.{number, unpacked}
@@ -13,11 +13,12 @@ use Rattle.image.specs.Parts.{Inside, heightsFrom}
 use Rattle.image.specs.Places.{fieldIn, heightFrom}
 use Rattle.image.specs.Widths.{recordOf, heightWidth, nodeWidth}
 use Rattle.image.proofs.PartCalls.{rest-length}
+use Rattle.protocol.proofs.TestsLaws.{neither-left, neither-right}
 use Rattle.tables.proofs.RowsLaws.{rest-is}
 use Rattle.tables.proofs.RowsMore.{rows-same}
 use Rattle.reader.specs.Fields.{within}
 use Rattle.reader.specs.Record.{NodeRow, saidRecord, nodeRow, recordIn, nodeInside, nodeOn}
-use Rattle.reader.proofs.FieldLaws.{from-byte, fits, not-false, neither-left, neither-right}
+use Rattle.reader.proofs.FieldLaws.{from-byte, fits}
 
 -- the first 64 bits of a record that stands inside the bytes
 pub head-inside : (xs : List ℕ) (at n : ℕ) → Inside xs at (nodeWidth 16 n) → (at + 64 < 2 ^ 32) × (at + 64 ≤ 8 * length xs)

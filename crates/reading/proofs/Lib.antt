@@ -1,6 +1,5 @@
 -- Laws of the reader.
 -- Assumes nothing of its own: each module says what it assumes.
-pub mod Bounds
 pub mod Steps
 pub mod WalkLaws
 pub mod ByteLaws

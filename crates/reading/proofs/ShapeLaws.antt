@@ -8,36 +8,32 @@ use mathlib.Core.Bool.{Bool, true, false, cond}
 use mathlib.Core.List.{List, [], _∷_}
 use mathlib.Core.Path.{sym, subst}
 use lib.Dec.{eqb}
-use lib.ListN.{length, take, drop, getD, replicate}
+use lib.ListN.{length, take, drop, replicate}
 use lib.Pow.{pow-mono}
-use lib.Seq.{getD-take}
 use Rattle.bits.specs.Bits.{gathered}
-use Rattle.bits.proofs.Numbers.{Below, below-nil, below-cons, below-append, below-take, below-drop, below-set}
+use Rattle.bits.proofs.Numbers.{Below, below-nil, below-cons, below-append, below-drop, below-zeros, below-set}
 use Rattle.image.specs.Places.{fieldIn, heightFrom, messagesOf, channelFrom, channelPlace, nodePlace, recordsIn, tablesIn}
 use Rattle.image.specs.Records.{rowOf, placesOf, cellOf, messagesFrom, tablesFrom}
 use Rattle.image.specs.Widths.{widthsOf, extendedOf, recordOf, heightWidth, messageWidth}
 use Rattle.image.proofs.ChannelLaws.{length-messages-of}
 use Rattle.image.proofs.FieldInLaws.{field-in-lt}
-use Rattle.image.proofs.RecordLaws.{extended-low, extended-high, gathered-lt, length-record, length-widths}
+use Rattle.image.proofs.PartLaws.{messages-wide}
+use Rattle.image.proofs.RecordLaws.{extended-low, extended-high, widths-narrow, gathered-lt, depth-lt, length-record}
 use Rattle.image.proofs.RowsMore.{below-rows}
-use Rattle.image.proofs.TablesRecords.{Eights, enil, econs, Shaped}
+use Rattle.image.proofs.TablesRecords.{Shaped}
 use Rattle.network.proofs.SoundTables.{Words}
 use Rattle.protocol.specs.Component.{Two}
+use Rattle.protocol.proofs.AllOf.{AllOf, none, more}
 use Rattle.tables.specs.Rows.{rows}
 use Rattle.reading.specs.Examine.{Walkable}
 
 -- ---- the shape
 
-eights-of : (d c : ℕ) (t : List ℕ) → Eights (messagesOf d c t)
-unfolding messagesOf
-eights-of d zero t = enil
-eights-of d (suc c) t = econs (length-record d 8 (omega arith) t) (eights-of d c (drop (messageWidth d) t))
-
 pub records-shaped : (h d n : ℕ) (l : List ℕ) → Walkable h d n l → Shaped n (recordsIn h d n l)
 unfolding recordsIn heightFrom channelFrom
 records-shaped h d n l w = record {
   heights = λ i j a b. length-record d 7 (omega arith) _;
-  messages = λ i j a b other. eights-of d _ _;
+  messages = λ i j a b other. messages-wide d _ _;
   few = λ i j a b other.
       let q : ℕ = channelPlace h d n l (suc i) (suc j) in
       let two : Two n (suc i) (suc j) =
@@ -65,31 +61,17 @@ below-gathered (w ∷ ws) bs narrow b =
     (lt-of-lt-of-le (gathered-lt (w ∷ ws) bs b 0 (omega arith)) (pow-mono at))
     (below-gathered ws (drop w bs) (λ i. narrow (suc i)) (below-drop 2 w bs b))
 
-widths-narrow : (d k : ℕ) → d ≤ 32 → Below 33 (take k (widthsOf d))
-widths-narrow d k h =
-    let t : ℕ → List ℕ = λ i. drop i (widthsOf d) in
-    let c : (x i : ℕ) → x < 33 → Below 33 (t i) → Below 33 (x ∷ t i) = λ x i. below-cons 33 x (t i) in
-    below-take 33 k (widthsOf d) (omega arith)
-    (c 32 1 (omega arith) (c 5 2 (omega arith) (c 1 3 (omega arith) (c d 4 (omega arith)
-    (c 32 5 (omega arith) (c 5 6 (omega arith) (c 5 7 (omega arith) (c 32 8 (omega arith) (below-nil 33 (omega arith))))))))))
-
 -- a height or a message
 module _ (d k : ℕ) (least : 4 ≤ k) (most : k ≤ 8) (narrow : d ≤ 32) (bs : List ℕ) (b : Below 2 bs) where
-  depth-lt : getD (gathered (take k (widthsOf d)) bs) 3 0 < 2 ^ d
-  depth-lt =
-      rw (getD-take k (widthsOf d) 3 0 least) at
-      (gathered-lt (take k (widthsOf d)) bs b 3 (omega (arith, length-widths d k most)))
-
   below-record : Below 4294967296 (recordOf d k bs)
   unfolding recordOf
   below-record =
-      below-set 4294967296 (gathered (take k (widthsOf d)) bs) 3 _ (extended-lt d _ narrow depth-lt)
+      below-set 4294967296 (gathered (take k (widthsOf d)) bs) 3 _ (extended-lt d _ narrow (depth-lt d k least most bs b))
       (below-gathered (take k (widthsOf d)) bs (widths-narrow d k narrow) b)
 
 -- messages in their places, then zero words
-data AllBelow : List (List ℕ) → Type 0 where
-  none : AllBelow []
-  more : {m : List ℕ} {ms : List (List ℕ)} → Below 4294967296 m → AllBelow ms → AllBelow (m ∷ ms)
+abbrev AllBelow : List (List ℕ) → Type 0
+AllBelow ms = AllOf (Below 4294967296) ms
 
 messages-below : (d c : ℕ) (t : List ℕ) → d ≤ 32 → Below 2 t → AllBelow (messagesOf d c t)
 unfolding messagesOf
@@ -98,14 +80,10 @@ messages-below d (suc c) t narrow b =
     more (below-record d 8 (omega arith) (omega arith) narrow t b)
     (messages-below d c (drop (messageWidth d) t) narrow (below-drop 2 (messageWidth d) t b))
 
-below-zeros : (k : ℕ) → Below 4294967296 (replicate k 0)
-below-zeros zero = below-nil 4294967296 (omega arith)
-below-zeros (suc k) = below-cons 4294967296 0 (replicate k 0) (omega arith) (below-zeros k)
-
 below-places : (k : ℕ) (ms : List (List ℕ)) → AllBelow ms → Below 4294967296 (placesOf k ms)
 unfolding placesOf
 below-places zero ms h = below-nil 4294967296 (omega arith)
-below-places (suc k) [] h = below-append 4294967296 (replicate 8 0) (placesOf k []) (below-zeros 8) (below-places k [] none)
+below-places (suc k) [] h = below-append 4294967296 (replicate 8 0) (placesOf k []) (below-zeros 4294967296 8 (omega arith)) (below-places k [] none)
 below-places (suc k) (m ∷ ms) (more a h) = below-append 4294967296 m (placesOf k ms) a (below-places k ms h)
 
 below-cell : (ms : List (List ℕ)) → length ms < 16 → AllBelow ms → Below 4294967296 (cellOf ms)

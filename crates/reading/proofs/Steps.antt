@@ -19,7 +19,7 @@ use Rattle.reading.specs.declared.Walk.{Walk}
 use Rattle.reading.specs.declared.Walk.the-variants.{At, Over, Cut}
 use Rattle.reading.specs.Walk.{channelStep, onward, steps}
 use Rattle.image.proofs.ChannelLaws.{next-same, next-other}
-use Rattle.reading.proofs.Bounds.{messages-small}
+use Rattle.image.proofs.Bounds.{messages-small}
 use Rattle.reading.proofs.Walk as declared
 
 -- a walk that `let .. else` turns away

@@ -16,7 +16,7 @@ use Rattle.reading.specs.declared.Walk.the-variants.{At, Over, Cut}
 use Rattle.reading.specs.Examine.{Walkable}
 use Rattle.reading.specs.Walk.{channelStep, channelsFromWalk, channelsWalk, walk}
 use Rattle.image.proofs.PlaceLaws.{channel-on, channels-on, start-in, walked-le}
-use Rattle.reading.proofs.Bounds.{nodes-small}
+use Rattle.image.proofs.Bounds.{nodes-small}
 use Rattle.reading.proofs.Steps.{Near, Went, went, steps-go, Stepped, channel-stepped}
 
 -- ---- accepted walks

@@ -25,7 +25,8 @@ use Rattle.protocol.specs.Step.{Event}
 use Rattle.protocol.proofs.Good.{good-started}
 use Rattle.protocol.proofs.Holding.{sound-holds}
 use Rattle.protocol.proofs.Restrict.{restrict-is}
-use Rattle.protocol.proofs.Runs.{Sane, found, act-sane, knil}
+use Rattle.protocol.proofs.AllOf.{none}
+use Rattle.protocol.proofs.Runs.{Sane, found, act-sane}
 use Rattle.protocol.proofs.TestsLaws.{Choice, yes!, no!, choice, equal?}
 use Rattle.snapshot.specs.Restore.{restoreOn}
 use Rattle.snapshot.specs.Save.{saidSaved, put, saveChecked, saveOn}
@@ -102,7 +103,7 @@ module _ (n : ℕ) (low : 1 ≤ n) (few : n ≤ 16) (w : RunState) (sane : Sane 
   one-saved : (b : List ℕ) (s : State) → lastSave b (w .saves) ≡ savedAt s → One (restore b)
   unfolding reply replyTo tablesAfter
   one-saved b s e =
-      let f = found image readImage n (read-back n low few) b (w .saves) (sane .kept) s e in
+      let f = found image readImage n (read-back n low few) b (w .saves) (sane .saves) s e in
       let r = restore-image n low few (s .network) (sound-holds n (s .network) (f .good .fits))
       (restrict-is n (s .network) (f .good .fits)) t (is-sized n t size) in
       record {
@@ -152,4 +153,4 @@ on-tables-from n low few w cs sane (fairCons {c = c} {cs = rest} f fs) =
 
 -- from `fresh`, which fills tables with `tablesOf n fresh`
 pub on-tables : (n : ℕ) → 1 ≤ n → n ≤ 16 → (cs : List Call) → Allowed n cs → OnTables n startOfRun cs
-on-tables n low few cs allowed = on-tables-from n low few startOfRun cs (record { good = good-started n; kept = knil }) allowed
+on-tables n low few cs allowed = on-tables-from n low few startOfRun cs (record { good = good-started n; saves = none }) allowed

@@ -19,7 +19,7 @@ use Rattle.image.proofs.PlaceLaws.{node-in, start-in}
 use Rattle.network.specs.Check.{checked}
 use Rattle.protocol.specs.Component.{Node}
 use Rattle.protocol.specs.Network.{isNode}
-use Rattle.protocol.proofs.TestsLaws.{Choice, yes!, no!, choice, and-left, and-right}
+use Rattle.protocol.proofs.TestsLaws.{Choice, yes!, no!, choice, and-left, and-right, node-passes}
 use Rattle.reader.specs.Fields.{within}
 use Rattle.reader.specs.Record.{NodeRow, nodeRow, recordIn, nodeInside, nodeOn, saidNode as saidRead}
 use Rattle.reader.specs.declared.NodeTaken.{NodeTaken}
@@ -31,7 +31,6 @@ use Rattle.reading.specs.declared.Fields.{Fields}
 use Rattle.reading.specs.declared.Header.{Header}
 use Rattle.reading.specs.declared.Header.the-variants.{Good, Short, Wrong}
 use Rattle.tables.proofs.RowsLaws.{product-le}
-use Rattle.tables.proofs.TablesLaws.{is-node}
 use Rattle.snapshot.specs.ReadNode.{Looked, looked, refusedNode, nodeAt, nodePlaced, nodeExamined, nodeHeaded, readNodeOn}
 use Rattle.snapshot.specs.Restore.{saidHeader}
 use Rattle.snapshot.proofs.RestoreLaws.{Refused}
@@ -106,11 +105,11 @@ module _ (f : Fields) (l : List ℕ) (k place : ℕ) (row : List ℕ) where
   module _ (node : Node (f .n) k) where
     pub not-place : (place ≡ nodePlace (f .length) 16 (f .n) k → ⊥) → looked (refusedNode (checked 13 0 0)) row ≡ nodePlaced f l k place row
     unfolding nodePlaced
-    not-place d = rw (is-node (f .n) k node, ne-eqb place (nodePlace (f .length) 16 (f .n) k) d)
+    not-place d = rw (node-passes (f .n) k node, ne-eqb place (nodePlace (f .length) 16 (f .n) k) d)
 
     pub at-place : (at : ℕ) → at ≡ nodePlace (f .length) 16 (f .n) k → place ≡ at → nodeAt (f .n) l at ≡ nodePlaced f l k place row
     unfolding nodePlaced
-    at-place at e q = rw (is-node (f .n) k node, eq-eqb place (nodePlace (f .length) 16 (f .n) k) (q ∙ e), q)
+    at-place at e q = rw (node-passes (f .n) k node, eq-eqb place (nodePlace (f .length) 16 (f .n) k) (q ∙ e), q)
 
 -- the record of node k stands inside an image that was walked
 pub record-inside : (xs : List ℕ) (n k at : ℕ) → Walkable 32 16 n (unpacked xs) → Node n k → at ≡ nodePlace 32 16 n k → Inside xs at (nodeWidth 16 n)

@@ -15,12 +15,11 @@ use Rattle.image.specs.Widths.{heightWidth, nodeWidth}
 use Rattle.network.specs.Check.{checked}
 use Rattle.protocol.specs.Component.{Node}
 use Rattle.protocol.specs.Network.{isNode}
-use Rattle.protocol.proofs.TestsLaws.{Choice, yes!, no!, choice, and-left, and-right}
+use Rattle.protocol.proofs.TestsLaws.{Choice, yes!, no!, choice, and-left, and-right, node-passes}
 use Rattle.reading.specs.Examine.{examined}
 use Rattle.reading.specs.Header.{fieldsOf, headerOf}
 use Rattle.reading.specs.declared.Header.{Header}
 use Rattle.reading.specs.declared.Header.the-variants.{Good}
-use Rattle.tables.proofs.TablesLaws.{is-node}
 use Rattle.snapshot.specs.ReadNode.{looked, refusedNode, nodeAt, nodePlaced, nodeExamined, nodeHeaded, readNodeOn}
 use Rattle.snapshot.proofs.AcceptedLaws.{HeaderGood, HeaderCase, isShort, isWrong, isGood, header-case}
 
@@ -63,13 +62,13 @@ module _ (xs row : List ℕ) (ok : Readable xs row) (k : ℕ) where
     unfolding nodePlaced
     own-place =
         placed (nodePlace 32 16 (field xs 16 5) k)
-        ∙ rw (is-node (field xs 16 5) k node, ok .header .header, eq-eqb (nodePlace 32 16 (field xs 16 5) k) (nodePlace 32 16 (field xs 16 5) k) refl)
+        ∙ rw (node-passes (field xs 16 5) k node, ok .header .header, eq-eqb (nodePlace 32 16 (field xs 16 5) k) (nodePlace 32 16 (field xs 16 5) k) refl)
 
     -- refused with 13 everywhere else
     pub no-place : (place : ℕ) → (place ≡ nodePlace 32 16 (field xs 16 5) k → ⊥) → readNodeOn xs k place row ≡ looked (refusedNode (checked 13 0 0)) row
     unfolding nodePlaced
     no-place place d =
-        placed place ∙ rw (is-node (field xs 16 5) k node, ok .header .header, ne-eqb place (nodePlace 32 16 (field xs 16 5) k) d)
+        placed place ∙ rw (node-passes (field xs 16 5) k node, ok .header .header, ne-eqb place (nodePlace 32 16 (field xs 16 5) k) d)
 
     -- the place at which another node's record starts
     pub other-place : (j : ℕ) → Node (field xs 16 5) j → (j ≡ k → ⊥)

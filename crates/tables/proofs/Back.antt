@@ -3,48 +3,45 @@
 use Prim.Native.Nat.{ℕ, zero, suc, _+_, _-_, _*_, _<_, _≤_}
 use native.Mathlib.Nat.{zero-add}
 use native.Mathlib.Omega.{arith}
-use mathlib.Core.Bool.{Bool, true, false, cond, _&&_}
+use mathlib.Core.Bool.{Bool, false, cond}
 use mathlib.Core.List.{List, [], _∷_, _++_}
 use mathlib.Core.Logic.{_⊎_, inl, inr}
 use mathlib.Core.Path.{_≡_, refl, sym, ap, _∙_, fun-ext}
 use lib.Dec.{eqb, leb}
-use lib.ListN.{getD, length, take, drop, replicate, length-append, length-replicate}
+use lib.ListN.{getD, length, take, drop, replicate, length-append}
 use lib.Seq.{getD-take, getD-drop, getD-append-add}
 use borrow.Author.Tests.{ne-eqb, leb-false, le-leb}
-use Rattle.height.specs.Height.{zeroHeight}
 use Rattle.height.specs.Words.{heightAt, heightWords}
 use Rattle.height.specs.declared.Height.{Height}
-use Rattle.height.proofs.OrderLaws.{clash, not-true-is-false}
+use Rattle.height.proofs.OrderLaws.{clash}
 use Rattle.height.proofs.WordsLaws.{same-words, words-height}
 use Rattle.nodeset.specs.NodeSet.{member, setOf}
 use Rattle.nodeset.proofs.Members.{member-setOf, setOf-lt, none-above, member-zero}
 use Rattle.protocol.specs.Component.{Node}
-use Rattle.protocol.specs.History.{State}
 use Rattle.protocol.specs.Network.{Message, Network, isNode, fresh, atNodes, atPairs, restrict}
-use Rattle.protocol.proofs.Good.{Good}
-use Rattle.protocol.proofs.Restrict.{restrict-is, is-node as node-is}
-use Rattle.protocol.proofs.Soundness.{Fits, Ranged, AllFit, fnil, fcons}
-use Rattle.protocol.proofs.TestsLaws.{Choice, yes!, no!, choice, equal?}
+use Rattle.protocol.proofs.AllOf.{AllOf, none, more, all-weaker}
+use Rattle.protocol.proofs.Restrict.{restrict-is, same-nodes, same-pairs}
+use Rattle.protocol.proofs.Soundness.{Fits, MessageFits}
+use Rattle.protocol.proofs.TestsLaws.{Choice, yes!, no!, choice, equal?, is-node}
 use Rattle.tables.specs.Cell.{messageAt, messagesAt, queue, messageWords, placeWords, cellWords}
 use Rattle.tables.specs.Load.{load, tablesOf, clockAt, neighborsAt, formingAt, heightsAt, messagesOn}
 use Rattle.tables.specs.Row.{clockIn, neighborsIn, formingIn, heightIn, nodeWords}
 use Rattle.tables.specs.Rows.{rowAt, rows}
-use Rattle.tables.specs.Tables.{Tables, Sized, width, cellWidth, nodeOf, channelOf, pairOf}
+use Rattle.tables.specs.Tables.{Sized, width, cellWidth, nodeOf, channelOf}
 use Rattle.tables.proofs.CellLaws.{messages-moved}
 use Rattle.tables.proofs.RowLaws.{height-past}
 use Rattle.tables.proofs.RowsMore.{length-rows, rows-at}
-use Rattle.tables.proofs.TablesLaws.{is-node}
 use Rattle.tables.proofs.WordRuns.{row-in}
 use Rattle.tables.proofs.Wordy.{Wordy, fits-wordy, zero-wordy}
 
-pub data AllWordy : List Message → Type 0 where
-  wnil : AllWordy []
-  wcons : {m : Message} {ms : List Message} → Wordy (m .height) → AllWordy ms → AllWordy (m ∷ ms)
+-- its height's words give the height back
+abbrev pub WordyMessage : Message → Type 0
+WordyMessage m = Wordy (m .height)
 
 pub record Storable (n : ℕ) (p : Network) : Type 0 where
   pub inside : restrict n p ≡ p
   pub heights : (u v : ℕ) → Node n u → Node n v → Wordy (p .height u v)
-  pub messages : (u v : ℕ) → Node n u → Node n v → AllWordy (p .channel u v)
+  pub messages : (u v : ℕ) → Node n u → Node n v → AllOf WordyMessage (p .channel u v)
   pub short : (u v : ℕ) → Node n u → Node n v → length (p .channel u v) ≤ 8
 
 -- ---- a node's words
@@ -101,11 +98,11 @@ message-back m rest w =
     unfold heightAt heightWords in words-height (m .height) (w .delta) (w .nlts) in
     rw e
 
-places-back : (k : ℕ) (ms : List Message) → AllWordy ms → length ms ≤ k → messagesAt (length ms) (placeWords k ms) 0 ≡ ms
+places-back : (k : ℕ) (ms : List Message) → AllOf WordyMessage ms → length ms ≤ k → messagesAt (length ms) (placeWords k ms) 0 ≡ ms
 unfolding messagesAt placeWords
-places-back k ms wnil l = refl
-places-back zero ms (wcons w ws) l = absurd (omega arith)
-places-back (suc k) ms (wcons {m = m} {ms = rest} w ws) l =
+places-back k ms none l = refl
+places-back zero ms (more w ws) l = absurd (omega arith)
+places-back (suc k) ms (more {x = m} {xs = rest} w ws) l =
     let ih = places-back k rest ws (omega arith) in
     let shifted : messagesAt (length rest) (messageWords m ++ placeWords k rest) (0 + 8) ≡ messagesAt (length rest) (placeWords k rest) 0 =
     messages-moved (length rest) (messageWords m ++ placeWords k rest) (placeWords k rest) (0 + 8) 0
@@ -113,7 +110,7 @@ places-back (suc k) ms (wcons {m = m} {ms = rest} w ws) l =
     let f : 0 + j ≡ j = omega arith in rw (e, f) (getD-append-add (messageWords m) (placeWords k rest) j 0)) in
     rw (message-back m (placeWords k rest) w, shifted, ih)
 
-pub queue-back : (ms : List Message) → AllWordy ms → length ms ≤ 8 → queue (cellWords ms) ≡ ms
+pub queue-back : (ms : List Message) → AllOf WordyMessage ms → length ms ≤ 8 → queue (cellWords ms) ≡ ms
 unfolding queue cellWords
 queue-back ms w l =
     messages-moved (length ms) (length ms ∷ placeWords 8 ms) (placeWords 8 ms) 1 0
@@ -134,7 +131,7 @@ set-back n f zero = member-zero (setOf n f)
 set-back n f (suc k) = go (choice (isNode n (suc k)))
   where
     go : Choice (isNode n (suc k)) → member (setOf n f) (suc k) ≡ cond (isNode n (suc k)) (f (suc k)) false
-    go (yes! e) = let s = node-is n (suc k) e in rw e (member-setOf n f (suc k) (s .low) (s .high))
+    go (yes! e) = let s = is-node n (suc k) e in rw e (member-setOf n f (suc k) (s .low) (s .high))
     go (no! e) = rw e (none-above n (setOf n f) (suc k) (setOf-lt n f) (omega (arith, outside n k e)))
 
 -- ---- the network
@@ -192,19 +189,12 @@ module _ (n : ℕ) (p : Network) (ok : Storable n p) where
 
       go : Choice (isNode n (suc k)) → heightIn row (suc k) ≡ cond (isNode n (suc k)) (p .height u (suc k)) (fresh .height u (suc k))
       go (yes! e) =
-          let s = node-is n (suc k) e in
+          let s = is-node n (suc k) e in
           rw e (node-height n (p .clock u) (p .neighbors u) (p .forming u) (p .height u) k (omega (arith, s .high)) (ok .heights u (suc k) a s))
       go (no! e) =
           let l = outside n k e in
           rw (e, ne-eqb u (suc k) (λ q. omega (arith, a .high)))
           (height-past n row (node-length n (p .clock u) (p .neighbors u) (p .forming u) (p .height u)) k l)
-
-  same-nodes : {A : Type 0} (f g d : ℕ → A) → ((u : ℕ) → Node n u → f u ≡ g u) → atNodes n f d ≡ atNodes n g d
-  same-nodes f g d h = fun-ext λ u. go u (choice (isNode n u))
-    where
-      go : (u : ℕ) → Choice (isNode n u) → atNodes n f d u ≡ atNodes n g d u
-      go u (no! e) = rw e
-      go u (yes! e) = rw e (h u (node-is n u e))
 
   -- a function of nodes into functions, and a function of pairs
   nodes-pairs : {A : Type 0} (f g d : ℕ → ℕ → A) → ((u : ℕ) → Node n u → (v : ℕ) → f u v ≡ cond (isNode n v) (g u v) (d u v))
@@ -213,27 +203,19 @@ module _ (n : ℕ) (p : Network) (ok : Storable n p) where
     where
       go : (u : ℕ) → Choice (isNode n u) → atNodes n f d u ≡ atPairs n g d u
       go u (no! e) = fun-ext λ v. rw e
-      go u (yes! e) = fun-ext λ v. rw e (h u (node-is n u e) v)
-
-  same-pairs : {A : Type 0} (f g d : ℕ → ℕ → A) → ((u v : ℕ) → Node n u → Node n v → f u v ≡ g u v) → atPairs n f d ≡ atPairs n g d
-  same-pairs f g d h = fun-ext λ u. fun-ext λ v. go u v (choice (isNode n u)) (choice (isNode n v))
-    where
-      go : (u v : ℕ) → Choice (isNode n u) → Choice (isNode n v) → atPairs n f d u v ≡ atPairs n g d u v
-      go u v (no! e) c = rw e
-      go u v (yes! e) (no! c) = rw (e, c)
-      go u v (yes! e) (yes! c) = rw (e, c) (h u v (node-is n u e) (node-is n v c))
+      go u (yes! e) = fun-ext λ v. rw e (h u (is-node n u e) v)
 
   loaded : load n (tablesOf n p) ≡ restrict n p
   unfolding load restrict nodeWords
   loaded = λ i. record {
-    clock = same-nodes (clockAt n (tablesOf n p)) (p .clock) (fresh .clock) (λ u a. ap clockIn (node-of n p u a)) i;
+    clock = same-nodes n (clockAt n (tablesOf n p)) (p .clock) (fresh .clock) (λ u a. ap clockIn (node-of n p u a)) i;
     neighbors = nodes-pairs (neighborsAt n (tablesOf n p)) (p .neighbors) (fresh .neighbors)
         (λ u a v. ap (λ (r : List ℕ). member (neighborsIn r) v) (node-of n p u a) ∙ set-back n (p .neighbors u) v) i;
     forming = nodes-pairs (formingAt n (tablesOf n p)) (p .forming) (fresh .forming)
         (λ u a v. ap (λ (r : List ℕ). member (formingIn r) v) (node-of n p u a) ∙ set-back n (p .forming u) v) i;
     height = nodes-pairs (heightsAt n (tablesOf n p)) (p .height) (fresh .height)
         (λ u a v. ap (λ (r : List ℕ). heightIn r v) (node-of n p u a) ∙ heights-of u a v) i;
-    channel = same-pairs (messagesOn n (tablesOf n p)) (p .channel) (fresh .channel)
+    channel = same-pairs n (messagesOn n (tablesOf n p)) (p .channel) (fresh .channel)
         (λ u v a b. ap queue (cell-of n p u v a b) ∙ queue-back (p .channel u v) (ok .messages u v a b) (ok .short u v a b)) i;
   }
 
@@ -242,15 +224,12 @@ module _ (n : ℕ) (p : Network) (ok : Storable n p) where
 
 -- ---- a good network is storable
 
-all-wordy : (n u : ℕ) (ms : List Message) → AllFit n u ms → AllWordy ms
-all-wordy n u ms fnil = wnil
-all-wordy n u ms (fcons {m = m} {ms = rest} f fs) = wcons (fits-wordy n u (m .height) (f .height)) (all-wordy n u rest fs)
-
 pub storable : (n : ℕ) (p : Network) → Fits n p → Storable n p
 storable n p fits = record {
   inside = restrict-is n p fits;
   heights = λ u v a b. view u v a (equal? v u) (choice (p .neighbors u v));
-  messages = λ u v a b. all-wordy n u (p .channel u v) (fits .messages u v);
+  messages = λ u v a b.
+      all-weaker (MessageFits n u) WordyMessage (λ m f. fits-wordy n u (m .height) (f .height)) (p .channel u v) (fits .messages u v);
   short = λ u v a b. fits .lengths u v;
 }
   where

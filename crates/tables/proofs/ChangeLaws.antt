@@ -1,15 +1,13 @@
 -- Functions of nodes and of pairs that are changed at one node: how a loaded network shows one row or some cells replaced.
 -- Assumes nothing.
 use Prim.Native.Nat.{ℕ}
-use mathlib.Core.Bool.{Bool, true, false, cond, _&&_}
+use mathlib.Core.Bool.{false}
 use mathlib.Core.Logic.{_⊎_, inl, inr}
-use mathlib.Core.Path.{_≡_, refl, sym, ap, _∙_, fun-ext}
+use mathlib.Core.Path.{_≡_, fun-ext}
 use Rattle.protocol.specs.Component.{Node}
 use Rattle.protocol.specs.Functions.{update}
 use Rattle.protocol.specs.Network.{isNode, atNodes, atPairs}
-use Rattle.protocol.proofs.Restrict.{is-node as node-is}
-use Rattle.protocol.proofs.TestsLaws.{Choice, yes!, no!, choice, equal?, update-at, update-off}
-use Rattle.tables.proofs.TablesLaws.{is-node}
+use Rattle.protocol.proofs.TestsLaws.{Choice, yes!, no!, choice, equal?, is-node, node-passes, update-at, update-off}
 
 -- ---- functions of nodes that differ at u alone
 
@@ -19,8 +17,8 @@ module _ {A : Type 0} (n u : ℕ) (a : Node n u) where
   changed-nodes f f′ g x other here = fun-ext λ y. go y (equal? y u) (choice (isNode n y))
     where
       go : (y : ℕ) → (y ≡ u) ⊎ (y ≡ u → ⊥) → Choice (isNode n y) → atNodes n f′ g y ≡ update (atNodes n f g) u x y
-      go y (inl e) c = rw (e, is-node n u a, update-at (atNodes n f g) u x) here
-      go y (inr d) (yes! s) = rw (update-off (atNodes n f g) u x y d, s) (other y (node-is n y s) d)
+      go y (inl e) c = rw (e, node-passes n u a, update-at (atNodes n f g) u x) here
+      go y (inr d) (yes! s) = rw (update-off (atNodes n f g) u x y d, s) (other y (is-node n y s) d)
       go y (inr d) (no! s) = rw (update-off (atNodes n f g) u x y d, s)
 
   -- of pairs, where g says what stands outside
@@ -31,8 +29,8 @@ module _ {A : Type 0} (n u : ℕ) (a : Node n u) where
     where
       go : (y z : ℕ) → (y ≡ u) ⊎ (y ≡ u → ⊥) → Choice (isNode n y) → Choice (isNode n z)
           → atPairs n f′ g y z ≡ update (atPairs n f g) u x y z
-      go y z (inl e) c (yes! s) = rw (e, is-node n u a, update-at (atPairs n f g) u x, s) (here z (node-is n z s))
-      go y z (inl e) c (no! s) = rw (e, is-node n u a, update-at (atPairs n f g) u x, s) (out z s)
-      go y z (inr d) (yes! r) (yes! s) = rw (update-off (atPairs n f g) u x y d, r, s) (other y z (node-is n y r) (node-is n z s) d)
+      go y z (inl e) c (yes! s) = rw (e, node-passes n u a, update-at (atPairs n f g) u x, s) (here z (is-node n z s))
+      go y z (inl e) c (no! s) = rw (e, node-passes n u a, update-at (atPairs n f g) u x, s) (out z s)
+      go y z (inr d) (yes! r) (yes! s) = rw (update-off (atPairs n f g) u x y d, r, s) (other y z (is-node n y r) (is-node n z s) d)
       go y z (inr d) (yes! r) (no! s) = rw (update-off (atPairs n f g) u x y d, r, s)
       go y z (inr d) (no! r) c = rw (update-off (atPairs n f g) u x y d, r)

@@ -1,5 +1,6 @@
 -- Laws of the lent tables.
 -- Assumes nothing of its own: each module says what it assumes.
+pub mod Sizes
 pub mod RowsLaws
 pub mod RowsMore
 pub mod WordRuns

@@ -3,18 +3,16 @@
 use Prim.Native.Nat.{ℕ, zero, suc, _+_, _*_, _^_, _<_, _≤_}
 use native.Mathlib.Omega.{arith}
 use native.Mathlib.Decide.{decLt}
-use mathlib.Core.Bool.{Bool}
-use mathlib.Core.List.{List, [], _∷_}
+use mathlib.Core.List.{List, _∷_}
 use mathlib.Core.Logic.{_⊎_, inl, inr}
 use mathlib.Core.Path.{_≡_, refl, sym, ap, _∙_, fun-ext}
-use lib.IntN.{pos}
 use lib.ListN.{getD, length, take, drop, set, length-drop, length-set, List·getD-eq-default}
 use lib.Seq.{drop-cons, drop-drop, getD-set-same, getD-set-other}
 use Rattle.height.specs.Height.{zeroHeight}
 use Rattle.height.specs.Words.{heightAt, heightWords, storedAt, deltaOf}
 use Rattle.height.specs.declared.Height.{Height}
 use Rattle.height.proofs.WordsLaws.{same-words, load-stored, load-before, load-past, stored-before, stored-past, stored-length, sets-in}
-use Rattle.nodeset.specs.NodeSet.{member, setOf}
+use Rattle.nodeset.specs.NodeSet.{member}
 use Rattle.nodeset.proofs.Members.{setOf-member}
 use Rattle.protocol.specs.Component.{Node}
 use Rattle.protocol.specs.Functions.{update}
@@ -23,7 +21,7 @@ use Rattle.tables.specs.Fit.{RowFits}
 use Rattle.tables.specs.Row.{clockIn, neighborsIn, formingIn, heightIn, putHeight, headed, rowWith, nodeWords}
 use Rattle.tables.specs.Rows.{rowAt, rows}
 use Rattle.tables.specs.Tables.{width}
-use Rattle.tables.proofs.WordRuns.{run, part-run, rows-are, run-words}
+use Rattle.tables.proofs.WordRuns.{part-run, rows-are, run-words}
 use Rattle.tables.proofs.Wordy.{Wordy, word-lt}
 
 -- ---- the numbers give the words back

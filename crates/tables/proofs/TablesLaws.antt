@@ -1,66 +1,51 @@
 -- Tables whose words their network gives back: `tablesOf n (load n t) ≡ t`. What a loaded network holds at a node.
 -- Assumes nothing.
-use Prim.Native.Nat.{ℕ, zero, suc, _+_, _-_, _*_, _^_, _<_, _≤_}
+use Prim.Native.Nat.{ℕ, suc, _+_, _-_, _*_, _^_, _<_}
 use native.Mathlib.Omega.{arith}
-use mathlib.Core.Bool.{Bool, true, false, cond, _&&_}
-use mathlib.Core.List.{List}
-use mathlib.Core.Path.{_≡_, refl, sym, ap, _∙_}
-use lib.Dec.{leb}
+use mathlib.Core.Bool.{true}
+use mathlib.Core.Path.{_≡_, sym, ap, _∙_}
 use lib.ListN.{length}
-use borrow.Author.Tests.{le-leb}
-use Rattle.height.specs.declared.Height.{Height}
-use Rattle.height.proofs.OrderLaws.{clash}
 use Rattle.nodeset.specs.NodeSet.{member}
-use Rattle.nodeset.proofs.Members.{member-zero, none-above}
+use Rattle.nodeset.proofs.Members.{member-range}
 use Rattle.protocol.specs.Component.{Node}
-use Rattle.protocol.specs.Network.{Message, Network, isNode}
+use Rattle.protocol.proofs.TestsLaws.{node-passes}
 use Rattle.tables.specs.Cell.{queue, cellWords}
 use Rattle.tables.specs.Fit.{TablesFit}
 use Rattle.tables.specs.Load.{load, tablesOf}
 use Rattle.tables.specs.Row.{clockIn, neighborsIn, formingIn, heightIn, nodeWords}
 use Rattle.tables.specs.Rows.{rowAt, rows}
-use Rattle.tables.specs.Tables.{Tables, tables, Sized, width, cellWidth, nodeOf, channelOf, pairOf}
+use Rattle.tables.specs.Tables.{Tables, width, cellWidth, nodeOf, channelOf, pairOf}
 use Rattle.tables.proofs.CellLaws.{cell-back}
 use Rattle.tables.proofs.RowLaws.{row-back}
 use Rattle.tables.proofs.RowsLaws.{row-length}
 use Rattle.tables.proofs.WordRuns.{rows-are, row-in}
 
-pub is-node : (n u : ℕ) → Node n u → isNode n u ≡ true
-is-node n u a = rw (le-leb 1 u (a .low), le-leb u n (a .high))
-
 -- the members of a set within n are nodes
 pub member-node : (n s : ℕ) → s < 2 ^ n → (k : ℕ) → member s k ≡ true → Node n k
-member-node n s h zero e = clash e (member-zero s)
-member-node n s h (suc k) e = go (in-range (suc k) e)
-  where
-    in-range : (k : ℕ) → member s k ≡ true → n < k → ⊥
-    in-range k e l = clash e (none-above n s k h l)
-
-    go : (n < suc k → ⊥) → Node n (suc k)
-    go d = record { low = omega arith; high = omega arith }
+member-node n s h k e = let r = member-range n s k h e in record { low = r .0; high = r .1 }
 
 -- ---- a loaded network at a node
 
 module _ (n : ℕ) (t : Tables) (u : ℕ) (a : Node n u) where
   pub load-clock : load n t .clock u ≡ clockIn (nodeOf n u (t .nodes))
   unfolding load
-  load-clock = rw (is-node n u a)
+  load-clock = rw (node-passes n u a)
 
   pub load-neighbors : load n t .neighbors u ≡ member (neighborsIn (nodeOf n u (t .nodes)))
   unfolding load
-  load-neighbors = rw (is-node n u a)
+  load-neighbors = rw (node-passes n u a)
 
   pub load-forming : load n t .forming u ≡ member (formingIn (nodeOf n u (t .nodes)))
   unfolding load
-  load-forming = rw (is-node n u a)
+  load-forming = rw (node-passes n u a)
 
   pub load-height : load n t .height u ≡ heightIn (nodeOf n u (t .nodes))
   unfolding load
-  load-height = rw (is-node n u a)
+  load-height = rw (node-passes n u a)
 
   pub load-channel : (v : ℕ) → Node n v → load n t .channel u v ≡ queue (channelOf n u v (t .channels))
   unfolding load
-  load-channel v b = rw (is-node n u a, is-node n v b)
+  load-channel v b = rw (node-passes n u a, node-passes n v b)
 
 -- ---- the tables back
 

@@ -1,16 +1,21 @@
 -- Words read one by one, and rows laid end to end: what determines a table.
 -- Assumes nothing.
-use Prim.Native.Nat.{ℕ, zero, suc, _+_, _-_, _*_, _<_, _≤_}
+use Prim.Native.Nat.{ℕ, zero, suc, _+_, _*_, _<_, _≤_}
 use native.Mathlib.Omega.{arith}
-use native.Mathlib.Nat.{add-zero, zero-add, suc-mul}
+use native.Mathlib.Nat.{add-zero}
 use native.Mathlib.Numerals.{towards-suc}
 use mathlib.Core.Path.{_≡_, refl, sym, ap, _∙_}
+use mathlib.Core.Bool.{true}
 use mathlib.Core.List.{List, [], _∷_, _++_}
+use lib.Dec.{eqb}
+use borrow.Author.Tests.{eqb-true}
 use lib.ListN.{getD, length, take, drop, replicate, length-drop, take-append-drop}
-use lib.Seq.{drop-cons, drop-drop, take-add, drop-nil, getD-take, getD-drop}
+use lib.Seq.{drop-cons, drop-drop, take-add, getD-take, getD-drop}
 use Rattle.tables.proofs.RowsLaws.{row-fits, part-length}
-use Rattle.height.specs.Words.{heightAt, heightWords, deltaOf, deltaWord}
+use Rattle.protocol.proofs.TestsLaws.{and-left, and-right}
+use Rattle.height.specs.Words.{heightAt, heightWords}
 use Rattle.height.proofs.WordsLaws.{word-signed, natAbs-neg}
+use Rattle.tables.specs.Cell.{allZero}
 use Rattle.tables.specs.Rows.{part, rowAt, rows}
 
 -- k words from index i on
@@ -76,3 +81,10 @@ row-in w n i j xs size hi hj =
     (λ m q. let f : i * (n * w) + (j * w + m) ≡ (i * n + j) * w + m = omega (arith, e) in
     getD-take (n * w) (drop (i * (n * w)) xs) (j * w + m) 0 (omega (arith, b)) ∙ getD-drop (i * (n * w)) xs (j * w + m) 0 ∙ ap (λ (x : ℕ). getD xs x 0) f)
     ∙ sym (part-run w ((i * n + j) * w) xs (omega (arith, e, size)))
+
+-- where all words are zero, each is
+pub zero-at : (ws : List ℕ) → allZero ws ≡ true → (j : ℕ) → getD ws j 0 ≡ 0
+unfolding allZero
+zero-at [] e j = refl
+zero-at (x ∷ xs) e zero = eqb-true x 0 (and-left (eqb x 0) (allZero xs) e)
+zero-at (x ∷ xs) e (suc j) = zero-at xs (and-right (eqb x 0) (allZero xs) e) j

@@ -13,6 +13,7 @@ use lib.ListN.{length, length-append}
 use Rattle.bits.proofs.Numbers.{Below, below-nil}
 use Rattle.image.specs.Parts.{Inside, Depth, rowBits, cellBits}
 use Rattle.image.specs.Widths.{messageWidth, nodeWidth}
+use Rattle.image.proofs.Bounds.{messages-small}
 use Rattle.image.proofs.PartLaws.{length-row-bits, below-row-bits, length-cell-bits, below-cell-bits}
 use Rattle.image.proofs.RowsMore.{below-rows}
 use Rattle.protocol.specs.Component.{Node}
@@ -25,13 +26,6 @@ use Rattle.tables.proofs.RowsMore.{length-rows}
 use Rattle.writing.specs.Words.{nodesBits, cellBitsAt, cellsFromBits, cellsBits, Counts}
 
 -- ---- the nodes
-
--- n heights of at most 112 bits
-pub heights-le : (d n : ℕ) → Depth d → n ≤ 16 → (80 + d) * n ≤ 1792
-heights-le d n w h =
-    let m : 80 + d ≤ 112 = omega (arith, w .high) in
-    let q : (80 + d) * n ≤ 112 * 16 = mul-le-mul m h in
-    omega arith
 
 -- node u's record
 unfoldable pub nodeBitsAt : ℕ → ℕ → List ℕ → ℕ → List ℕ
@@ -73,10 +67,7 @@ other-cell d n cs u v e = rw (ne-eqb u v e)
 -- c messages of at most 144 bits
 messages-le : (d c : ℕ) → Depth d → c ≤ 8 → c * messageWidth d ≤ 1152
 unfolding messageWidth
-messages-le d c w h =
-    let m : 112 + d ≤ 144 = omega (arith, w .high) in
-    let q : c * (112 + d) ≤ 8 * 144 = mul-le-mul h m in
-    omega arith
+messages-le d c w h = messages-small c d h (w .high)
 
 -- the channel from u to v, which holds c messages
 module _ (d n : ℕ) (cs : List ℕ) (u v c : ℕ) (w : Depth d) (a : Node n u) (b : Node n v)

@@ -12,9 +12,10 @@ use Rattle.image.specs.Image.{headerBits, nodeBits, messageBits, channelBits, c
 use Rattle.image.specs.Parts.{rowBits, cellBits}
 use Rattle.image.specs.Records.{Records, recordsOf, rowOf}
 use Rattle.image.proofs.PartLaws.{row-bits, cell-bits}
-use Rattle.image.proofs.TablesRecords.{length-words, cell-words, Eights, enil, econs}
+use Rattle.image.proofs.TablesRecords.{length-words, cell-words, Eights}
 use Rattle.protocol.specs.Component.{Node}
 use Rattle.protocol.specs.Network.{Message}
+use Rattle.protocol.proofs.AllOf.{none, more}
 use Rattle.tables.specs.Cell.{count, queue, messageWords}
 use Rattle.tables.specs.Fit.{TablesFit}
 use Rattle.tables.specs.Load.{load}
@@ -30,8 +31,8 @@ use Rattle.writing.specs.Words.{nodesBits, cellBitsAt, cellsFromBits, ce
 -- ---- a cell's words
 
 pub message-words : (ms : List Message) → Eights (map messageWords ms)
-message-words [] = enil
-message-words (m ∷ ms) = econs (message-length m) (message-words ms)
+message-words [] = none
+message-words (m ∷ ms) = more (message-length m) (message-words ms)
 
 queue-length : (cell : List ℕ) → length (queue cell) ≡ count cell
 unfolding queue

@@ -1,7 +1,7 @@
 // The channels' records, u ascending, then v ascending: how many bits they take, and the bits.
 // Assumes the bounds that each `requires` states.
 ghost use mathlib.Core.Path.{_≡_};
-ghost use Prim.Native.Nat.{_+_, _*_, _^_, _≤_, _<_};
+ghost use Prim.Native.Nat.{_+_, _*_, _≤_};
 ghost use lib.ListN.{length};
 ghost use Rattle.bits.specs.Bits.{written};
 ghost use Rattle.image.specs.Parts.{Inside, Depth};

@@ -2,7 +2,7 @@
 // These are leaves: only our crates call them, with the bounds that `requires` states.
 ghost use mathlib.Core.List.{_++_};
 ghost use mathlib.Core.Path.{_≡_};
-ghost use Prim.Native.Nat.{_+_, _*_, _/_, _^_, _≤_, _<_};
+ghost use Prim.Native.Nat.{_+_, _*_, _/_, _≤_};
 ghost use lib.ListN.{length, drop};
 ghost use Rattle.image.specs.Image.{image};
 ghost use Rattle.tables.specs.Fit.{TablesFit};

@@ -3,7 +3,8 @@
 use native.Mathlib.Omega.{arith}
 use mathlib.Core.Path.{sym, _∙_}
 use Rattle.abi.specs.Sizes.{nodesLength}
-use Rattle.abi.proofs.SizeLaws.{size-of, nodes-le}
+use Rattle.tables.proofs.Sizes.{rows-small}
+use Rattle.abi.proofs.SizeLaws.{size-of}
 use borrow.Author.Needs.{needs}
 use Rattle.abi.proofs.election_nodes_len.Statement.{statement}
 use Rattle.abi.proofs.election_nodes_len.Tie as tie
@@ -20,7 +21,7 @@ add-result c = search needs
 mul-result-2 : tie.Need-mul-result-2
 mul-result-2 c =
     let n = c .before .before .args .n in
-    omega (arith, nodes-le n (size-of n (c .before .is-size .ensures) (c .if1 .taken)))
+    omega (arith, rows-small n (size-of n (c .before .is-size .ensures) (c .if1 .taken) .high))
 
 returns : tie.Need-returns
 unfolding nodesLength

@@ -3,7 +3,8 @@
 use native.Mathlib.Omega.{arith}
 use mathlib.Core.Path.{sym}
 use lib.Seq.{length-take-le}
-use Rattle.bench_run.proofs.PlotLaws.{small-rows, small-cells, part-sized}
+use Rattle.tables.proofs.Sizes.{rows-small, cells-small}
+use Rattle.bench_run.proofs.PlotLaws.{part-sized}
 use borrow.Author.Needs.{needs}
 use Rattle.bench_run.proofs.plot.plot.Statement.{statement}
 use Rattle.bench_run.proofs.plot.plot.Tie as tie
@@ -21,33 +22,33 @@ add-a : tie.Need-add-a
 add-a c = search needs
 
 mul-a-2 : tie.Need-mul-a-2
-mul-a-2 c = omega (arith, small-rows (c .before .before .before .before .args .n) (c .before .before .before .before .pre .1))
+mul-a-2 c = omega (arith, rows-small (c .before .before .before .before .args .n) (c .before .before .before .before .pre .1))
 
 mul-b : tie.Need-mul-b
-mul-b c = omega (arith, small-cells (c .before .before .before .before .args .n) (c .before .before .before .before .pre .1))
+mul-b c = omega (arith, cells-small (c .before .before .before .before .args .n) (c .before .before .before .before .pre .1))
 
 mul-b-2 : tie.Need-mul-b-2
-mul-b-2 c = omega (arith, small-cells (c .before .before .before .before .args .n) (c .before .before .before .before .pre .1))
+mul-b-2 c = omega (arith, cells-small (c .before .before .before .before .args .n) (c .before .before .before .before .pre .1))
 
 array-borrow-prefix-nodes : tie.Need-array-borrow-prefix-nodes
 array-borrow-prefix-nodes c =
     let s = c .before .before .before .before in
-    omega (arith, small-rows (s .args .n) (s .pre .1), c .before .blank-nodes .ensures)
+    omega (arith, rows-small (s .args .n) (s .pre .1), c .before .blank-nodes .ensures)
 
 slice-aggregate-with-tables : tie.Need-slice-aggregate-with-tables
 slice-aggregate-with-tables c =
     let s = c .before .before .before .before .before in
-    sym (length-take-le _ _ (omega (arith, small-rows (s .args .n) (s .pre .1), c .before .before .blank-nodes .ensures)))
+    sym (length-take-le _ _ (omega (arith, rows-small (s .args .n) (s .pre .1), c .before .before .blank-nodes .ensures)))
 
 array-borrow-prefix-channels : tie.Need-array-borrow-prefix-channels
 array-borrow-prefix-channels c =
     let s = c .before .before .before .before .before in
-    omega (arith, small-cells (s .args .n) (s .pre .1), c .before .blank-channels .ensures)
+    omega (arith, cells-small (s .args .n) (s .pre .1), c .before .blank-channels .ensures)
 
 slice-aggregate-with-tables-2 : tie.Need-slice-aggregate-with-tables-2
 slice-aggregate-with-tables-2 c =
     let s = c .before .before .before .before .before .before in
-    sym (length-take-le _ _ (omega (arith, small-cells (s .args .n) (s .pre .1), c .before .before .blank-channels .ensures)))
+    sym (length-take-le _ _ (omega (arith, cells-small (s .args .n) (s .pre .1), c .before .before .blank-channels .ensures)))
 
 with-tables-requires : tie.Need-with-tables-requires
 with-tables-requires c κs =

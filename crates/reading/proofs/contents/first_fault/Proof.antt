@@ -10,7 +10,7 @@ use Rattle.image.specs.Places.{channelsPlace, tablesIn}
 use Rattle.image.specs.Widths.{heightWidth, nodeWidth}
 use Rattle.network.specs.Check.{place as placeOf, firstFault}
 use Rattle.tables.specs.Tables.{width, cellWidth}
-use Rattle.reading.proofs.Bounds.{heights-small, nodes-small}
+use Rattle.image.proofs.Bounds.{heights-small, nodes-small}
 use Rattle.reading.proofs.ReadLaws.{node-inside, ChannelsAt, channels-start, channels-next, channels-of}
 use Rattle.reading.proofs.SearchLaws.{RowsHeld, rows-held-none, rows-held-next, rows-held-fault, rows-held-all, row-searched}
 use Rattle.reading.proofs.contents.first_fault.Statement.{statement}

@@ -12,7 +12,8 @@ use Rattle.tables.specs.Rows.{rows}
 use Rattle.tables.specs.Tables.{cellWidth}
 use Rattle.tables.proofs.RowsLaws.{row-fits}
 use Rattle.reading.proofs.FillLaws.{Filling, fill-start, fill-done, fill-wide, fill-next}
-use Rattle.reading.proofs.Bounds.{heights-small, nodes-small, cells-small}
+use Rattle.image.proofs.Bounds.{heights-small, nodes-small}
+use Rattle.tables.proofs.Sizes.{cell-rows-small}
 use Rattle.reading.proofs.ReadLaws.{ChannelsAt, channels-start, channels-next, channels-of, cells-got, length-cells-got}
 use Rattle.reading.proofs.filling.read_cells.Statement.{statement}
 use Rattle.reading.proofs.filling.read_cells.Tie as tie
@@ -55,12 +56,12 @@ cast-a c = omega arith
 mul-a : tie.Need-mul-a Inv-loop μ-loop
 mul-a c =
     let s = c .before .before .before .before in
-    omega (arith, row-fits (s .args .n * cellWidth) (c .before .loop .u) (s .args .n) (c .loop-test .taken), cells-small (s .args .n) (s .pre .1))
+    omega (arith, row-fits (s .args .n * cellWidth) (c .before .loop .u) (s .args .n) (c .loop-test .taken), cell-rows-small (s .args .n) (s .pre .1))
 
 add-e : tie.Need-add-e Inv-loop μ-loop
 add-e c =
     let s = c .before .before .before .before in
-    omega (arith, row-fits (s .args .n * cellWidth) (c .before .loop .u) (s .args .n) (c .loop-test .taken), cells-small (s .args .n) (s .pre .1))
+    omega (arith, row-fits (s .args .n * cellWidth) (c .before .loop .u) (s .args .n) (c .loop-test .taken), cell-rows-small (s .args .n) (s .pre .1))
 
 add-read-cells-from : tie.Need-add-read-cells-from Inv-loop μ-loop
 add-read-cells-from c = omega arith
@@ -68,7 +69,7 @@ add-read-cells-from c = omega arith
 mul-read-cells-from : tie.Need-mul-read-cells-from Inv-loop μ-loop
 mul-read-cells-from c =
     let s = c .before .before .before .before in
-    omega (arith, row-fits (s .args .n * cellWidth) (c .before .loop .u) (s .args .n) (c .loop-test .taken), cells-small (s .args .n) (s .pre .1))
+    omega (arith, row-fits (s .args .n * cellWidth) (c .before .loop .u) (s .args .n) (c .loop-test .taken), cell-rows-small (s .args .n) (s .pre .1))
 
 sub-read-cells-from : tie.Need-sub-read-cells-from Inv-loop μ-loop
 sub-read-cells-from c = omega arith

@@ -10,7 +10,8 @@ use Rattle.image.specs.Widths.{heightWidth, nodeWidth}
 use Rattle.tables.specs.Tables.{width}
 use Rattle.tables.proofs.RowsLaws.{row-fits}
 use Rattle.reading.proofs.FillLaws.{Filling, fill-start, fill-done, fill-wide, fill-next}
-use Rattle.reading.proofs.Bounds.{heights-small, rows-small}
+use Rattle.image.proofs.Bounds.{heights-small}
+use Rattle.tables.proofs.Sizes.{rows-small}
 use Rattle.reading.proofs.ReadLaws.{node-inside, row-got, length-row-got}
 use Rattle.reading.proofs.filling.read_rows.Statement.{statement}
 use Rattle.reading.proofs.filling.read_rows.Tie as tie

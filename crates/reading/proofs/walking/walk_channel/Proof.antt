@@ -1,7 +1,7 @@
 -- `reading::walking::walk_channel` meets its contract: each return is one law of ByteLaws.antt.
 -- Assumes nothing.
 use Rattle.reading.proofs.ByteLaws.{own-channel, no-count, too-many, messages-cut, goes-on}
-use Rattle.reading.proofs.Bounds.{messages-small}
+use Rattle.image.proofs.Bounds.{messages-small}
 use native.Mathlib.Omega.{arith}
 use borrow.Author.Needs.{needs}
 use Rattle.reading.proofs.walking.walk_channel.Statement.{statement}

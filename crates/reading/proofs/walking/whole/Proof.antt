@@ -1,7 +1,7 @@
 -- `reading::walking::whole` meets its contract: each return is one law of ByteLaws.antt.
 -- Assumes nothing.
 use Rattle.reading.proofs.ByteLaws.{nodes-cut, nodes-stand}
-use Rattle.reading.proofs.Bounds.{heights-small, nodes-small}
+use Rattle.image.proofs.Bounds.{heights-small, nodes-small}
 use native.Mathlib.Omega.{arith}
 use borrow.Author.Needs.{needs}
 use Rattle.reading.proofs.walking.whole.Statement.{statement}

@@ -10,7 +10,8 @@ use Rattle.image.specs.Parts.{Inside, rowBits}
 use Rattle.image.specs.Widths.{heightWidth, nodeWidth}
 use Rattle.tables.specs.Tables.{width, nodeOf}
 use Rattle.writing.specs.Words.{nodesBits}
-use Rattle.writing.proofs.LengthLaws.{heights-le, nodeBitsAt, below-node, length-node, nodes-inside}
+use Rattle.image.proofs.Bounds.{heights-small}
+use Rattle.writing.proofs.LengthLaws.{nodeBitsAt, below-node, length-node, nodes-inside}
 use Rattle.writing.proofs.PieceLaws.{Laid, laid-start, laid-room, laid-next, laid-all}
 use Rattle.writing.proofs.nodes.put_nodes.Statement.{statement}
 use Rattle.writing.proofs.nodes.put_nodes.Tie as tie
@@ -37,10 +38,10 @@ add-w : tie.Need-add-w Inv-loop μ-loop
 add-w c = omega (arith, c .before .before .pre .0 .high)
 
 mul-w : tie.Need-mul-w Inv-loop μ-loop
-mul-w c = omega (arith, heights-le _ _ (c .before .before .pre .0) (c .before .before .pre .1))
+mul-w c = omega (arith, heights-small _ _ (c .before .before .pre .0 .high) (c .before .before .pre .1))
 
 add-w-2 : tie.Need-add-w-2 Inv-loop μ-loop
-add-w-2 c = omega (arith, heights-le _ _ (c .before .before .pre .0) (c .before .before .pre .1))
+add-w-2 c = omega (arith, heights-small _ _ (c .before .before .pre .0 .high) (c .before .before .pre .1))
 
 loop-holds : tie.Need-loop-holds Inv-loop μ-loop
 loop-holds c = laid-start _ _ _ _ (λ i. c .before .slice-known .given i .fits) (omega (arith, c .before .before .pre .3 .inside))

@@ -1,4 +1,4 @@
--- How wide a channel's messages, a node's heights, all nodes' records and the lent tables can be.
+-- How wide a channel's messages, a node's heights and all nodes' records can be.
 -- Assumes at most 16 nodes, 8 messages and depths of 32 bits.
 use Prim.Native.Nat.{ℕ, _+_, _*_, _≤_}
 use native.Mathlib.Nat.{mul-le-mul}
@@ -12,9 +12,3 @@ heights-small d n h k = let narrow : 80 + d ≤ 112 = omega arith in mul-le-mul 
 
 pub nodes-small : (d n : ℕ) → d ≤ 32 → n ≤ 16 → n * (64 + (80 + d) * n) ≤ 29696
 nodes-small d n h k = let node : 64 + (80 + d) * n ≤ 1856 = omega (arith, heights-small d n h k) in mul-le-mul k node
-
-pub rows-small : (n : ℕ) → n ≤ 16 → n * (3 + 7 * n) ≤ 1840
-rows-small n h = let row : 3 + 7 * n ≤ 115 = omega arith in mul-le-mul h row
-
-pub cells-small : (n : ℕ) → n ≤ 16 → n * (n * 65) ≤ 16640
-cells-small n h = let row : n * 65 ≤ 1040 = omega arith in mul-le-mul h row

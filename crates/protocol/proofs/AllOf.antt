@@ -1,0 +1,18 @@
+-- What holds of every element of a list: of the first, of the others, and as what follows from it.
+-- Assumes nothing.
+use mathlib.Core.List.{List, [], _∷_, tail}
+
+pub data AllOf {A : Type 0} (P : A → Type 0) : List A → Type 0 where
+  none : AllOf P []
+  more : {x : A} {xs : List A} → P x → AllOf P xs → AllOf P (x ∷ xs)
+
+pub all-head : {A : Type 0} (P : A → Type 0) (x : A) (xs : List A) → AllOf P (x ∷ xs) → P x
+all-head P x xs (more h k) = h
+
+pub all-tail : {A : Type 0} (P : A → Type 0) (xs : List A) → AllOf P xs → AllOf P (tail xs)
+all-tail P xs none = none
+all-tail P xs (more h k) = k
+
+pub all-weaker : {A : Type 0} (P Q : A → Type 0) → ((x : A) → P x → Q x) → (xs : List A) → AllOf P xs → AllOf Q xs
+all-weaker P Q f xs none = none
+all-weaker P Q f xs (more {x = x} {xs = rest} h k) = more (f x h) (all-weaker P Q f rest k)
