@@ -60,7 +60,7 @@ fn done(letter: u8, set: u16, from: u32, level: ReferenceLevel) -> AnswerReport
 fn of_rule(rule: Rule, set: u16) -> AnswerReport
     ensures { λ r. ⌜ (saidReport r ≡ saidRule rule set) × (r .sent ≡ ones (r .«sent_to»)) ⌝ }
 {
-    let letter = protocol::letter(Answer::Done(rule, set));
+    let letter = answers::letter(Answer::Done(rule, set));
     match rule {
         Rule::AdoptLpIfPriority(v) => done(letter, set, v, no_level()),
         Rule::PropagateLargestRefLevel(level) => done(letter, set, 0, level),
@@ -90,7 +90,7 @@ fn refused(number: u32, u: u32, v: u32) -> AnswerReport
 fn of_refusal(why: Refusal) -> AnswerReport
     ensures { λ r. ⌜ (saidReport r ≡ saidWhy why) × (r .sent ≡ ones (r .«sent_to»)) ⌝ }
 {
-    let number = protocol::refusal_number(why);
+    let number = answers::refusal_number(why);
     match why {
         Refusal::Fault(u, v) => refused(number, u, v),
         _ => refused(number, 0, 0),

@@ -70,9 +70,9 @@ pub fn put_answer(out: &mut [u8], at: usize, k: u32, answer: Answer) -> usize
         out,
         at,
         k,
-        protocol::number(answer),
-        protocol::letter(answer),
-        protocol::sent(answer),
+        answers::number(answer),
+        answers::letter(answer),
+        answers::sent(answer),
     )
 }
 

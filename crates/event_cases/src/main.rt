@@ -13,9 +13,9 @@ fn digit(k: u32) -> u8 {
 }
 
 fn line(event: u8, answer: Answer) {
-    let number = digit(protocol::number(answer));
-    let letter = protocol::letter(answer);
-    let sent = digit(protocol::sent(answer));
+    let number = digit(answers::number(answer));
+    let letter = answers::letter(answer);
+    let sent = digit(answers::sent(answer));
     let text = [event, b' ', number, b' ', letter, b' ', sent, b'\n'];
     io::write_all(1, &text);
 }

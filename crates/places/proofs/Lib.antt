@@ -1,5 +1,4 @@
 -- Laws of the test of one place.
 -- Assumes nothing of its own: each module says what it assumes.
-pub mod HoldsLaws
 pub mod PlaceLaws
 pub mod HeldPlaces

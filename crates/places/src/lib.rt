@@ -11,8 +11,6 @@ ghost use Rattle.tables.specs.Cell.{messagesAt};
 ghost use Rattle.tables.specs.Tables.{width, cellWidth};
 ghost use Rattle.places.specs.Place.{ownPlace, viewPlace, channelPlace, placeIn};
 
-mod heights;
-
 // Node v is in the set, whatever the word's other bits are.
 fn is_member(word: u32, v: u32) -> bool
     requires { ⌜ v ≤ 16 ⌝ }
@@ -26,8 +24,8 @@ pub fn own_place(n: u32, u: u32, row: &[u32], cell: &[u32]) -> bool
     requires { ⌜ (n ≤ 16) × Node n u × (length (now row) ≡ width n) × (length (now cell) ≡ cellWidth) ⌝ }
     ensures { λ r. ⌜ r ≡ ownPlace n u (now (row .entry)) (now (cell .entry)) ⌝ }
 {
-    let sets = heights::sets_hold(n, u, row[1], row[2]);
-    let own = heights::height_holds(n, u, tables::rows::height_in(n, row, u));
+    let sets = holds::sets_hold(n, u, row[1], row[2]);
+    let own = holds::height_holds(n, u, tables::rows::height_in(n, row, u));
     let unused = tables::cells::all_zero(cell);
     sets & own & unused
 }
@@ -38,7 +36,7 @@ pub fn view_place(n: u32, v: u32, row: &[u32]) -> bool
     ensures { λ r. ⌜ r ≡ viewPlace n v (now (row .entry)) ⌝ }
 {
     if is_member(row[1], v) {
-        return heights::height_holds(n, v, tables::rows::height_in(n, row, v));
+        return holds::height_holds(n, v, tables::rows::height_in(n, row, v));
     }
     let a = 3 + ((v - 1) as usize) * 7;
     let e = a + 7;
@@ -53,7 +51,7 @@ fn messages_hold(n: u32, u: u32, cell: &[u32], count: usize) -> bool
     let mut k = 0;
     while k < count {
         let h = tables::cells::nth_height(cell, k);
-        if !heights::height_holds(n, u, h) {
+        if !holds::height_holds(n, u, h) {
             return false;
         }
         k += 1;

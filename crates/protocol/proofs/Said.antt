@@ -1,4 +1,4 @@
--- `said` is injective: every number and value of an answer is in what it says. Also: what each kind of answer says, field by field.
+-- `said` is injective: every number and value of an answer is in what it says.
 -- Assumes nothing.
 use Prim.Native.Nat.{ℕ}
 use mathlib.Core.Bool.{cond}
@@ -85,28 +85,3 @@ answer-back (Refused why) = refused-back why
 
 pub said-injective : (a b : Answer) → said a ≡ said b → a ≡ b
 said-injective a b e = sym (answer-back a) ∙ (ap answerFrom e ∙ answer-back b)
-
--- ---- field by field, for the functions
-
-module _ (a : Answer) (rule : Rule) (set : ℕ) (e : a ≡ Done rule set) where
-  done-said : said a ≡ carriedOut (saidRule rule 0 .rule) set (saidRule rule 0 .adoptedFrom) (saidRule rule 0 .levelTaken)
-  done-said = ap said e ∙ rule-said rule set
-
-  pub done-number : said a .number ≡ 0
-  done-number = ap (λ (s : Said). s .number) done-said
-
-  pub done-letter : said a .rule ≡ saidRule rule 0 .rule
-  done-letter = ap (λ (s : Said). s .rule) done-said
-
-  pub done-set : said a .sentTo ≡ set
-  done-set = ap (λ (s : Said). s .sentTo) done-said
-
-module _ (a : Answer) (why : Refusal) (e : a ≡ Refused why) where
-  refused-said : said a ≡ saidRefused (saidWhy why .number) (saidWhy why .faultAt) (saidWhy why .faultWith)
-  refused-said = ap said e ∙ why-said why
-
-  pub refused-letter : said a .rule ≡ 45
-  refused-letter = ap (λ (s : Said). s .rule) refused-said
-
-  pub refused-set : said a .sentTo ≡ 0
-  refused-set = ap (λ (s : Said). s .sentTo) refused-said

@@ -1,9 +1,9 @@
--- `places::heights::level_holds` meets its contract: a level without a search is all zero, any other has an originator.
+-- `holds::level_holds` meets its contract: a level without a search is all zero, any other has an originator.
 -- Assumes nothing.
 use native.Mathlib.Omega.{arith}
-use Rattle.places.proofs.HoldsLaws.{level-none, level-some}
-use Rattle.places.proofs.heights.level_holds.Statement.{statement}
-use Rattle.places.proofs.heights.level_holds.Tie as tie
+use Rattle.holds.proofs.HoldsLaws.{level-none, level-some}
+use Rattle.holds.proofs.level_holds.Statement.{statement}
+use Rattle.holds.proofs.level_holds.Tie as tie
 
 returns : tie.Need-returns
 returns c = level-none (c .before .args .n) (c .before .args .l) (omega arith)

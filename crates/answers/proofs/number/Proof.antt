@@ -1,13 +1,13 @@
--- `protocol::number` meets its contract: what the answer says, by Said.antt.
+-- `answers::number` meets its contract: what the answer says, by SaidFields.antt.
 -- Assumes nothing.
 use mathlib.Core.Path.{sym}
-use Rattle.protocol.proofs.Said.{done-number}
+use Rattle.answers.proofs.SaidFields.{done-number}
 use borrow.Author.Needs.{needs}
-use Rattle.protocol.proofs.number.Statement.{statement}
-use Rattle.protocol.proofs.number.Tie as tie
-use Rattle.protocol.proofs.number.Reads as reads
-use Rattle.protocol.proofs.number.Lts as lts
-use Rattle.protocol.proofs.refusal_number.Reads as refusal-number-reads
+use Rattle.answers.proofs.number.Statement.{statement}
+use Rattle.answers.proofs.number.Tie as tie
+use Rattle.answers.proofs.number.Reads as reads
+use Rattle.answers.proofs.number.Lts as lts
+use Rattle.answers.proofs.refusal_number.Reads as refusal-number-reads
 
 enum-told : tie.Need-enum-told
 enum-told c = search needs

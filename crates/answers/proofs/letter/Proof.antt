@@ -1,13 +1,13 @@
--- `protocol::letter` meets its contract: what the answer says, by Said.antt.
+-- `answers::letter` meets its contract: what the answer says, by SaidFields.antt.
 -- Assumes nothing.
 use mathlib.Core.Path.{sym, _∙_}
-use Rattle.protocol.proofs.Said.{done-letter, refused-letter}
+use Rattle.answers.proofs.SaidFields.{done-letter, refused-letter}
 use borrow.Author.Needs.{needs}
-use Rattle.protocol.proofs.letter.Statement.{statement}
-use Rattle.protocol.proofs.letter.Tie as tie
-use Rattle.protocol.proofs.letter.Reads as reads
-use Rattle.protocol.proofs.letter.Lts as lts
-use Rattle.protocol.proofs.rule_letter.Reads as rule-letter-reads
+use Rattle.answers.proofs.letter.Statement.{statement}
+use Rattle.answers.proofs.letter.Tie as tie
+use Rattle.answers.proofs.letter.Reads as reads
+use Rattle.answers.proofs.letter.Lts as lts
+use Rattle.answers.proofs.rule_letter.Reads as rule-letter-reads
 
 enum-known-answer : tie.Need-enum-known-answer
 enum-known-answer c = search needs

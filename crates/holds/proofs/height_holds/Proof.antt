@@ -1,12 +1,12 @@
--- `places::heights::height_holds` meets its contract: a negated time is within its range already.
+-- `holds::height_holds` meets its contract: a negated time is within its range already.
 -- Assumes nothing.
 use mir.Facts.{toZ-ofZ}
 use mir.Syntax.{w32}
 use mir.Val.{SFits}
 use borrow.Author.Needs.{needs}
-use Rattle.places.proofs.HoldsLaws.{height-test}
-use Rattle.places.proofs.heights.height_holds.Statement.{statement}
-use Rattle.places.proofs.heights.height_holds.Tie as tie
+use Rattle.holds.proofs.HoldsLaws.{height-test}
+use Rattle.holds.proofs.height_holds.Statement.{statement}
+use Rattle.holds.proofs.height_holds.Tie as tie
 
 level-holds-requires : tie.Need-level-holds-requires
 level-holds-requires c κs = search needs

@@ -1,10 +1,10 @@
--- `places::heights::sets_hold` meets its contract. Two words below 2 to the power n are sets of nodes 1 to n.
+-- `holds::sets_hold` meets its contract. Two words below 2 to the power n are sets of nodes 1 to n.
 -- Assumes nothing.
 use native.Mathlib.Omega.{arith}
 use borrow.Author.Needs.{needs}
-use Rattle.places.proofs.HoldsLaws.{sets-low, sets-inside, sets-outside}
-use Rattle.places.proofs.heights.sets_hold.Statement.{statement}
-use Rattle.places.proofs.heights.sets_hold.Tie as tie
+use Rattle.holds.proofs.HoldsLaws.{sets-low, sets-inside, sets-outside}
+use Rattle.holds.proofs.sets_hold.Statement.{statement}
+use Rattle.holds.proofs.sets_hold.Tie as tie
 
 shl-end : tie.Need-shl-end
 shl-end c = search needs

@@ -1,5 +1,5 @@
-// The rules of a height as tests (document 01, "What a station holds").
-// Assumes the bounds that each `requires` states.
+// The rules of a height and of a node's two sets as tests (document 01, "What a station holds").
+// These are leaves: only our crates call them, with the bounds that `requires` states.
 ghost use mathlib.Core.Path.{_≡_};
 ghost use mathlib.Core.Bool.{_&&_};
 ghost use Prim.Native.Nat.{_≤_};
@@ -10,6 +10,7 @@ ghost use Rattle.protocol.specs.Holds.{levelHolds, deltaHolds, heightHolds, set
 use height::Height;
 use height::ReferenceLevel;
 
+// A reference level.
 fn level_holds(n: u32, l: ReferenceLevel) -> bool
     ensures { λ r. ⌜ r ≡ levelHolds n l ⌝ }
 {
@@ -22,6 +23,7 @@ fn level_holds(n: u32, l: ReferenceLevel) -> bool
     (1 <= oid) & (oid <= n) & (r <= 1)
 }
 
+// A depth.
 fn delta_holds(d: i32) -> bool
     ensures { λ r. ⌜ r ≡ deltaHolds d ⌝ }
 {

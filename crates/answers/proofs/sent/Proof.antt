@@ -1,13 +1,13 @@
--- `protocol::sent` meets its contract: what the answer says, by Said.antt.
+-- `answers::sent` meets its contract: what the answer says, by SaidFields.antt.
 -- Assumes nothing.
 use mathlib.Core.Path.{sym, ap, _∙_}
 use lib.Count.{ones}
-use Rattle.protocol.proofs.Said.{done-set, refused-set}
+use Rattle.answers.proofs.SaidFields.{done-set, refused-set}
 use borrow.Author.Needs.{needs}
-use Rattle.protocol.proofs.sent.Statement.{statement}
-use Rattle.protocol.proofs.sent.Tie as tie
-use Rattle.protocol.proofs.sent.Reads as reads
-use Rattle.protocol.proofs.sent.Lts as lts
+use Rattle.answers.proofs.sent.Statement.{statement}
+use Rattle.answers.proofs.sent.Tie as tie
+use Rattle.answers.proofs.sent.Reads as reads
+use Rattle.answers.proofs.sent.Lts as lts
 use Rattle.nodeset.proofs.count.Reads as count-reads
 
 enum-known-answer : tie.Need-enum-known-answer

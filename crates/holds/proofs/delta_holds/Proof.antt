@@ -1,9 +1,9 @@
--- `places::heights::delta_holds` meets its contract: the tests on the bits are those on the number.
+-- `holds::delta_holds` meets its contract: the tests on the bits are those on the number.
 -- Assumes nothing.
 use mir.Facts.{toZ-ofZ}
 use Rattle.protocol.specs.Holds.{deltaHolds}
-use Rattle.places.proofs.heights.delta_holds.Statement.{statement}
-use Rattle.places.proofs.heights.delta_holds.Tie as tie
+use Rattle.holds.proofs.delta_holds.Statement.{statement}
+use Rattle.holds.proofs.delta_holds.Tie as tie
 
 returns : tie.Need-returns
 unfolding deltaHolds
