@@ -24,7 +24,7 @@ pub record PostedBy (c u : ℕ) (m : Message) : Type 0 where
   pub sender : m .height .id ≡ u
 
 -- node u, at the clock c
-pub record Settled (n u c : ℕ) (N F : ℕ → Bool) (row : ℕ → Height) : Type 0 where
+pub record NodeInv (n u c : ℕ) (N F : ℕ → Bool) (row : ℕ → Height) : Type 0 where
   pub times : (v : ℕ) → Bounded c (row v)
   pub awake : sink n N row u ≡ false
   pub mine : row u .id ≡ u
@@ -42,7 +42,7 @@ sideOf p a b = record {
 }
 
 pub record Inv (n : ℕ) (p : Network) : Type 0 where
-  pub nodes : (u : ℕ) → Settled n u (p .clock u) (p .neighbors u) (p .forming u) (p .height u)
+  pub nodes : (u : ℕ) → NodeInv n u (p .clock u) (p .neighbors u) (p .forming u) (p .height u)
   pub posted : (u v : ℕ) → AllOf (PostedBy (p .clock u) u) (p .channel u v)
   pub links : (a b : ℕ) → (a ≡ b → ⊥) → Link (sideOf p a b) (sideOf p b a)
 
@@ -82,13 +82,13 @@ module _ (p : Network) (u : ℕ) (l : Local) (ch : ℕ → ℕ → List Message)
   unfolding commit drained
   side-off a b d = simp row-off
 
-  commit-nodes : (n : ℕ) → Inv n p → Settled n u (l .clock) (l .neighbors) (l .forming) (l .row)
-      → (a : ℕ) → SameOrNot a u → Settled n a (after .clock a) (after .neighbors a) (after .forming a) (after .height a)
+  commit-nodes : (n : ℕ) → Inv n p → NodeInv n u (l .clock) (l .neighbors) (l .forming) (l .row)
+      → (a : ℕ) → SameOrNot a u → NodeInv n a (after .clock a) (after .neighbors a) (after .forming a) (after .height a)
   unfolding commit
   commit-nodes n inv settled a (inl e) = simp (e, update-at) settled
   commit-nodes n inv settled a (inr d) = simp update-off (inv .nodes a)
 
-  commit-posted : (n : ℕ) → Settled n u (l .clock) (l .neighbors) (l .forming) (l .row) → p .clock u ≤ l .clock
+  commit-posted : (n : ℕ) → NodeInv n u (l .clock) (l .neighbors) (l .forming) (l .row) → p .clock u ≤ l .clock
       → ((a b : ℕ) → AllOf (PostedBy (p .clock a) a) (ch a b)) → (a b : ℕ) → SameOrNot a u
       → AllOf (PostedBy (after .clock a) a) (after .channel a b)
   unfolding commit news
@@ -116,7 +116,7 @@ module _ (p : Network) (u : ℕ) (l : Local) (ch : ℕ → ℕ → List Message)
       go (inr d) (inr f) = rw (side-off a b d, side-off b a f, elsewhere a b d f, elsewhere b a f d) (inv .links a b ne)
 
   -- what is left to show of an event: its node, the clock, the channels before it sends, and the links of its node
-  pub commit-inv : (n : ℕ) → Inv n p → Settled n u (l .clock) (l .neighbors) (l .forming) (l .row)
+  pub commit-inv : (n : ℕ) → Inv n p → NodeInv n u (l .clock) (l .neighbors) (l .forming) (l .row)
       → p .clock u ≤ l .clock
       → ((a b : ℕ) → AllOf (PostedBy (p .clock a) a) (ch a b))
       → ((a b : ℕ) → (a ≡ u → ⊥) → (b ≡ u → ⊥) → ch a b ≡ p .channel a b)

@@ -16,7 +16,7 @@ use Rattle.protocol.specs.Step.{Event, up, down, receive, home, peer, he
 use Rattle.protocol.specs.Step.{cleared, commit}
 use Rattle.protocol.specs.declared.Rule.{Rule}
 use Rattle.protocol.proofs.Channels.{cleared-off, cleared-is, cleared-all}
-use Rattle.protocol.proofs.Invariant.{PostedBy, Settled, sideOf, Inv, news}
+use Rattle.protocol.proofs.Invariant.{PostedBy, NodeInv, sideOf, Inv, news}
 use Rattle.protocol.proofs.Invariant.{LinkAfter, commit-inv, SameBut}
 use Rattle.protocol.proofs.LinkLaws.{Informed, tells, silent, spoken, speak}
 use Rattle.protocol.proofs.LinkLaws.{drained}
@@ -107,7 +107,7 @@ module _ (e : Event) where
           h : Height
           h = heightAfter n N row u v (suc c) r
 
-          settled : Settled n u (suc c) N F (update row u h)
+          settled : NodeInv n u (suc c) N F (update row u h)
           settled = record {
             times = update-all (λ a x. Bounded (suc c) x) row u h (kept .bounded) (λ a d. later c (suc c) (row a) (omega arith) (times a));
             awake = kept .awake;

@@ -1,7 +1,7 @@
 -- `bench_run::events::line` meets its contract: the event that the line names, on the tables and in the listing.
 -- Assumes nothing.
 use Rattle.bench_run.proofs.PourLaws.{both}
-use Rattle.bench_run.proofs.LineRuns.{told-up, told-down, told-receive, told-malformed, line-done}
+use Rattle.bench_run.proofs.LineRuns.{line-up, line-down, line-receive, line-malformed, line-done}
 use borrow.Author.Needs.{needs}
 use Rattle.bench_run.proofs.events.line.Statement.{statement}
 use Rattle.bench_run.proofs.events.line.Tie as tie
@@ -58,7 +58,7 @@ returns c =
     let e = c .before .before .before .before .before .before .before .before in
     let x = c .before .before .put-answer .ensures in
     let p = b14 .parse .ensures in
-    line-done (told-up _ _ _ _ p (b12 .u .given .1) (e .up .ensures)) (both (x .0) (x .1)) (x .2)
+    line-done (line-up _ _ _ _ p (b12 .u .given .1) (e .up .ensures)) (both (x .0) (x .1)) (x .2)
 
 same-length-4 : tie.Need-same-length-4
 same-length-4 c = search needs
@@ -76,7 +76,7 @@ returns-2 c =
     let e = c .before .before .before .before .before .before .before .before in
     let x = c .before .before .put-answer2 .ensures in
     let p = b14 .parse .ensures in
-    line-done (told-down _ _ _ _ p (b12 .u2 .given .1) (e .down .ensures)) (both (x .0) (x .1)) (x .2)
+    line-done (line-down _ _ _ _ p (b12 .u2 .given .1) (e .down .ensures)) (both (x .0) (x .1)) (x .2)
 
 same-length-7 : tie.Need-same-length-7
 same-length-7 c = search needs
@@ -94,7 +94,7 @@ returns-3 c =
     let e = c .before .before .before .before .before .before .before .before in
     let x = c .before .before .put-answer3 .ensures in
     let p = b14 .parse .ensures in
-    line-done (told-receive _ _ _ _ p (b12 .u3 .given .1) (e .receive .ensures)) (both (x .0) (x .1)) (x .2)
+    line-done (line-receive _ _ _ _ p (b12 .u3 .given .1) (e .receive .ensures)) (both (x .0) (x .1)) (x .2)
 
 same-length-10 : tie.Need-same-length-10
 same-length-10 c = search needs
@@ -103,7 +103,7 @@ returns-4 : tie.Need-returns-4
 returns-4 c =
     let x = c .before .before .put-event .ensures in
     line-done
-    (told-malformed _ _ _ _ (c .before .before .before .before .before .before .parse .ensures) (c .before .before .before .before .enum-told .given .1))
+    (line-malformed _ _ _ _ (c .before .before .before .before .before .before .parse .ensures) (c .before .before .before .before .enum-told .given .1))
     (both (x .0) (x .1)) (x .2)
 
 pub line-spec : {M : Type 1} → statement M
