@@ -13,6 +13,7 @@ use Rattle.tables.specs.Tables.{Tables, Sized, nodeOf, putNode}
 use Rattle.election.specs.Cells.{CellsAre, clearedCells, sentCells, roomFor, Takes, Silenced}
 use Rattle.election.specs.declared.Kind.{Kind}
 
+-- what writing needs: the event has been chosen, and every channel to be sent on has room
 pub record Writes (kind : Kind) (n : ℕ) (t : Tables) (u v N F : ℕ) (view own : Height) (to : ℕ) : Type 0 where
   pub size : Sized n t
   pub node : Node n u
@@ -25,6 +26,7 @@ pub record Writes (kind : Kind) (n : ℕ) (t : Tables) (u v N F : ℕ) (view own
   pub view-negated : Negated (view .pair .nlts .0)
   pub own-negated : Negated (own .pair .nlts .0)
 
+-- what it leaves: u's row with the moved clock, its sets, the view of v and its own height; the cells cleared and sent to
 pub record Written (kind : Kind) (n u v clock N F : ℕ) (view own : Height) (to : ℕ) (t t′ : Tables) : Type 0 where
   pub row : t′ .nodes ≡ putNode n u (rowWith (nodeOf n u (t .nodes)) clock N F v view u own) (t .nodes)
   pub delta : mag (own .delta) < 2147483648

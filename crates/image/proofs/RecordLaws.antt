@@ -8,12 +8,11 @@ use mathlib.Core.Path.{_≡_, refl, sym, ap, _∙_}
 use mathlib.Core.Logic.{_⊎_, ⊎-elim}
 use mathlib.Core.List.{List, [], _∷_, _++_}
 use borrow.Author.Tests.{lt-ltb, le-ltb}
-use lib.ListN.{length, take, drop, getD, set, length-take, length-drop, length-set}
+use lib.ListN.{length, take, drop, getD, set, length-take, length-set}
 use lib.Seq.{set-set, set-getD, getD-set-same, getD-take}
 use lib.Pow.{pow-pos, pow-mono, high-ones}
-use Rattle.bits.specs.Bits.{bits, unpacked, written, total, spread, gathered, RoomFor}
+use Rattle.bits.specs.Bits.{bits, total, spread, gathered, RoomFor}
 use Rattle.bits.proofs.Numbers.{Below, bits-cong, below-nil, below-cons, below-take, below-drop}
-use Rattle.bits.proofs.Bytes.{below-unpacked, length-unpacked, written-tail, written-own}
 use Rattle.bits.proofs.Fields.{Fitting, spread-gathered, gathered-spread, length-gathered, length-spread, below-spread}
 use Rattle.image.specs.Places.{fieldIn}
 use Rattle.image.specs.Widths.{widthsOf, extendedOf, recordBits, recordOf, heightWidth, messageWidth}
@@ -188,17 +187,3 @@ module _ (d n : ℕ) (h : 1 ≤ d) (k : d ≤ 32) (four : 4 ≤ n) (eight : n �
       ap (λ (m : ℕ). spread (take m (widthsOf d)) (set g 3 (extendedOf d (getD g 3 0)))) (length-record d n eight bs)
       ∙ spread-set ws g 3 (extendedOf d (getD g 3 0)) (rw (depth-width d n four) (extended-mod d (getD g 3 0) h k x ∙ sym (mod-eq-of-lt x)))
       ∙ spread-gathered ws bs b r
-
-  -- and at any bit place of bytes
-  pub record-put-get : (xs vs : List ℕ) (at : ℕ) → length vs ≡ n → FitsFields d vs → at + total (take n (widthsOf d)) ≤ 8 * length xs
-      → recordOf d n (drop at (unpacked (written xs at (recordBits d vs)))) ≡ vs
-  record-put-get xs vs at e s r =
-      ap (recordOf d n) (written-tail xs at (recordBits d vs) (below-record d vs) (rw (length-record-bits d n eight vs e) r))
-      ∙ record-of-bits vs (drop (at + length (recordBits d vs)) (unpacked xs)) e s
-
-  pub record-get-put : (xs : List ℕ) (at : ℕ) → Below 256 xs → at + total (take n (widthsOf d)) ≤ 8 * length xs
-      → written xs at (recordBits d (recordOf d n (drop at (unpacked xs)))) ≡ xs
-  record-get-put xs at b r =
-      let inside : total (take n (widthsOf d)) ≤ length (drop at (unpacked xs)) = simp length-drop (omega (arith, length-unpacked xs)) in
-      ap (written xs at) (bits-of-record (drop at (unpacked xs)) (below-drop 2 at (unpacked xs) (below-unpacked xs)) inside)
-      ∙ written-own xs at (total (take n (widthsOf d))) b r

@@ -1,6 +1,6 @@
 -- `image::records::get_record` meets its contract: seven words are got at the widths of a height, the depth is extended, and a message's
 -- stamp is got behind them. Assumes nothing.
-use Prim.Native.Nat.{ℕ, _+_, _^_, _<_}
+use Prim.Native.Nat.{ℕ, _^_, _<_}
 use native.Mathlib.Omega.{arith}
 use mathlib.Core.Path.{_≡_, sym, ap, ap₂, _∙_}
 use mathlib.Core.List.{List, _++_}

@@ -1,6 +1,6 @@
 -- `image_cases::full::fill_channels` meets its contract: nothing passes its type.
 -- Assumes nothing.
-use Prim.Native.Nat.{_-_, _≤_}
+use Prim.Native.Nat.{_-_}
 use mathlib.Core.Path.{_≡_}
 use lib.ListN.{length}
 use borrow.Author.Needs.{needs}
