@@ -2,13 +2,12 @@
 -- Assumes nothing.
 use Prim.Native.Nat.{ℕ, _≤_}
 use native.Mathlib.Omega.{arith}
-use mathlib.Core.Bool.{Bool, true, false, not}
+use mathlib.Core.Bool.{true, false}
 use mathlib.Core.List.{List, [], _∷_}
 use mathlib.Core.Path.{_≡_, refl, sym, ap, _∙_}
 use denote.Enum.Declared.{tagOf}
 use types.Run.{OneOf, miss}
 use Rattle.bits.specs.Bits.{unpacked}
-use Rattle.height.proofs.OrderLaws.{clash}
 use Rattle.image.specs.Places.{tablesIn}
 use Rattle.network.specs.Check.{SaidCheck, checked}
 use Rattle.network.specs.Fresh.{filled}
@@ -59,14 +58,6 @@ good-fields xs {h} e {f} q = go (headerOf xs) (header-case xs) (sym q ∙ e)
         rw same (record { length-is = g .header; low = g .low; few = g .few })
 
 -- ---- behind it
-
-pub not-true : (b : Bool) {c : Bool} → b ≡ c → not b ≡ true → c ≡ false
-not-true true e q = clash q refl
-not-true false e q = sym e
-
-pub not-false : (b : Bool) {c : Bool} → b ≡ c → not b ≡ false → c ≡ true
-not-false true e q = sym e
-not-false false e q = clash refl q
 
 module _ (n : ℕ) (l : List ℕ) {r : Examined} (answers : saidExamined r ≡ examined 32 16 n l) where
   said : {x : Examined} → r ≡ x → examined 32 16 n l ≡ saidExamined x

@@ -1,10 +1,11 @@
 -- `snapshot::restoring::headed` meets its contract: 1, 2 or 12, or the tables of the image.
 -- Assumes nothing.
-use mathlib.Core.Path.{ap, _∙_}
+use mathlib.Core.Path.{sym, ap, _∙_}
+use borrow.Author.Tests.{not-true, not-false}
 use Rattle.network.proofs.CheckLaws.{sized-is}
 use Rattle.network.specs.Check.{checked}
 use Rattle.network.specs.Fresh.{filled}
-use Rattle.snapshot.proofs.RestoreLaws.{not-true, not-false, sound-walks, of-sizes, of-fault, of-end, of-done}
+use Rattle.snapshot.proofs.RestoreLaws.{sound-walks, of-sizes, of-fault, of-end, of-done}
 use borrow.Author.Needs.{needs}
 use Rattle.snapshot.proofs.restoring.headed.Statement.{statement}
 use Rattle.snapshot.proofs.restoring.headed.Tie as tie
@@ -19,7 +20,7 @@ same-length-2 : tie.Need-same-length-2
 same-length-2 c = search needs
 
 returns : tie.Need-returns
-returns c = of-sizes _ _ _ (not-true _ (c .before .is-sized .ensures) (c .if1 .taken))
+returns c = of-sizes _ _ _ (sym (c .before .is-sized .ensures) ∙ not-true _ (c .if1 .taken))
 
 examine-requires : tie.Need-examine-requires
 examine-requires c κs = search needs
@@ -30,7 +31,7 @@ enum-told c = search needs
 read-tables-requires : tie.Need-read-tables-requires
 read-tables-requires c κs =
     let e = c .before .before .before .before in
-    let fit = not-false _ (e .before .before .is-sized .ensures) (e .before .if1 .left) in
+    let fit = sym (e .before .before .is-sized .ensures) ∙ not-false _ (e .before .if1 .left) in
     let few = c .before .before .before .before .before .before .before .before .before .before .before .before .pre .1 in
     (sized-is _ _ fit, sound-walks _ _ (e .examine .ensures) few (c .before .before .enum-told .given .1))
 
@@ -49,7 +50,7 @@ same-length-4 c = search needs
 returns-2 : tie.Need-returns-2
 returns-2 c =
     let e = c .before .before .before .before .before .before .before .before .before in
-    let fit = not-false _ (e .before .before .is-sized .ensures) (e .before .if1 .left) in
+    let fit = sym (e .before .before .is-sized .ensures) ∙ not-false _ (e .before .if1 .left) in
     ap (filled (checked 0 0 0)) (c .before .before .before .before .read-tables .ensures)
     ∙ of-done _ _ (e .examine .ensures) _ fit (c .before .before .before .before .before .before .before .enum-told .given .1)
 
@@ -62,7 +63,7 @@ same-length-6 c = search needs
 returns-3 : tie.Need-returns-3
 returns-3 c =
     let e = c .before .before .before in
-    let fit = not-false _ (e .before .before .is-sized .ensures) (e .before .if1 .left) in
+    let fit = sym (e .before .before .is-sized .ensures) ∙ not-false _ (e .before .if1 .left) in
     of-fault _ _ (e .examine .ensures) _ fit (c .before .u .given .1)
 
 same-length-7 : tie.Need-same-length-7
@@ -74,7 +75,7 @@ same-length-8 c = search needs
 returns-4 : tie.Need-returns-4
 returns-4 c =
     let e = c .before .before in
-    let fit = not-false _ (e .before .before .is-sized .ensures) (e .before .if1 .left) in
+    let fit = sym (e .before .before .is-sized .ensures) ∙ not-false _ (e .before .if1 .left) in
     of-end _ _ (e .examine .ensures) _ fit (c .enum-told2 .given .1)
 
 pub headed-spec : {M : Type 1} → statement M
