@@ -4,7 +4,7 @@ use Prim.Native.Nat.{ℕ, _+_, _≤_}
 use mathlib.Core.List.{List}
 use mathlib.Core.Path.{_≡_, refl, sym, ap, _∙_}
 use lib.ListN.{length}
-use Rattle.commands.specs.Commands.{commandOf}
+use Rattle.commands.specs.Commands.{saidMalformed, saidCommand, commandOf}
 use Rattle.commands.specs.declared.Command.{Command}
 use Rattle.commands.specs.declared.Command.the-variants.{Up, Down, Receive, Malformed}
 use Rattle.election.specs.StepOn.{Outcome, outcome, stepOn}
@@ -12,7 +12,7 @@ use Rattle.protocol.specs.Answer.{Said}
 use Rattle.protocol.specs.Step.{up, down, receive}
 use Rattle.tables.specs.Tables.{Tables}
 use Rattle.text.specs.Text.{poured}
-use Rattle.bench_run.specs.Listing.{eventLine, saidLine}
+use Rattle.bench_run.specs.Listing.{eventLine, saidLine, byEvent}
 use Rattle.bench_run.specs.OnTables.{commandLineOn, afterCommandOn}
 use Rattle.bench_run.proofs.PourLaws.{Poured}
 
@@ -21,27 +21,28 @@ pub record LineResult (n : ℕ) (t : Tables) (k : ℕ) (l text : List ℕ) (afte
   pub text-is : text ≡ commandLineOn n t k (commandOf l)
   pub after-is : after ≡ afterCommandOn n t (commandOf l)
 
-module _ (n : ℕ) (t : Tables) (k : ℕ) (l : List ℕ) {c : Command} (parsed : c ≡ commandOf l) where
-  of-command : {d : Command} {text : List ℕ} {after : Tables} → c ≡ d → text ≡ commandLineOn n t k d → after ≡ afterCommandOn n t d → LineResult n t k l text after
-  of-command e x y = record {
-    text-is = x ∙ ap (commandLineOn n t k) (sym e ∙ parsed);
-    after-is = y ∙ ap (afterCommandOn n t) (sym e ∙ parsed);
-  }
+module _ (n : ℕ) (t : Tables) (k : ℕ) (l : List ℕ) {c : Command} (parsed : saidCommand c ≡ commandOf l) where
+  of-command : {d : Command} {text : List ℕ} {after : Tables} → c ≡ d → text ≡ commandLineOn n t k (saidCommand d)
+      → after ≡ afterCommandOn n t (saidCommand d) → LineResult n t k l text after
+  of-command e x y =
+      let says = ap saidCommand (sym e) ∙ parsed in
+      record { text-is = x ∙ ap (commandLineOn n t k) says; after-is = y ∙ ap (afterCommandOn n t) says }
 
   pub line-up : {u v : ℕ} → c ≡ Up u v → {s : Said} {after : Tables} → outcome s after ≡ stepOn n (up u v) t → LineResult n t k l (saidLine k s) after
-  unfolding commandLineOn afterCommandOn
+  unfolding byEvent commandLineOn afterCommandOn
   line-up e q = of-command e (ap (λ (o : Outcome). saidLine k (o .said)) q) (ap (λ (o : Outcome). o .after) q)
 
   pub line-down : {u v : ℕ} → c ≡ Down u v → {s : Said} {after : Tables} → outcome s after ≡ stepOn n (down u v) t → LineResult n t k l (saidLine k s) after
-  unfolding commandLineOn afterCommandOn
+  unfolding byEvent commandLineOn afterCommandOn
   line-down e q = of-command e (ap (λ (o : Outcome). saidLine k (o .said)) q) (ap (λ (o : Outcome). o .after) q)
 
-  pub line-receive : {u v : ℕ} → c ≡ Receive u v → {s : Said} {after : Tables} → outcome s after ≡ stepOn n (receive u v) t → LineResult n t k l (saidLine k s) after
-  unfolding commandLineOn afterCommandOn
+  pub line-receive : {u v : ℕ} → c ≡ Receive u v → {s : Said} {after : Tables} → outcome s after ≡ stepOn n (receive u v) t
+      → LineResult n t k l (saidLine k s) after
+  unfolding byEvent commandLineOn afterCommandOn
   line-receive e q = of-command e (ap (λ (o : Outcome). saidLine k (o .said)) q) (ap (λ (o : Outcome). o .after) q)
 
-  pub line-malformed : c ≡ Malformed → LineResult n t k l (eventLine k 15 45 0) t
-  unfolding commandLineOn afterCommandOn
+  pub line-malformed : c ≡ Malformed → LineResult n t k l (eventLine k (saidMalformed .number) 45 0) t
+  unfolding byEvent commandLineOn afterCommandOn
   line-malformed e = of-command e refl refl
 
 -- the line has been poured

@@ -2,62 +2,62 @@
 -- Assumes 1 to 16 nodes.
 use Prim.Native.Nat.{ℕ, suc, _≤_}
 use native.Mathlib.Omega.{arith}
+use mathlib.Core.Bool.{Bool, true, false, cond}
 use mathlib.Core.List.{List, [], _∷_, _++_}
 use mathlib.Core.Path.{_≡_, refl, sym, ap, ap₂, _∙_}
-use Rattle.commands.specs.Commands.{commandOf}
-use Rattle.commands.specs.declared.Command.{Command}
-use Rattle.commands.specs.declared.Command.the-variants.{Up, Down, Receive, Malformed}
+use lib.Dec.{eqb}
+use Rattle.commands.specs.Commands.{SaidCommand, commandOf}
 use Rattle.election.specs.StepOn.{Outcome}
 use Rattle.election.proofs.RunLaws.{own-call}
 use Rattle.protocol.specs.Component.{Node}
 use Rattle.protocol.specs.History.{State, started, advance}
 use Rattle.protocol.specs.Network.{Network, fresh}
-use Rattle.protocol.specs.Step.{up, down, receive}
+use Rattle.protocol.specs.Step.{Event, up, down, receive}
 use Rattle.protocol.proofs.Good.{Good, good-started, good-advance}
 use Rattle.tables.specs.Load.{tablesOf}
 use Rattle.tables.specs.Tables.{Tables}
 use Rattle.tables.proofs.Back.{storable, load-back}
 use Rattle.tables.proofs.RowsMore.{rows-same}
 use Rattle.tables.proofs.TablesLaws.{load-clock, load-height}
-use Rattle.bench_run.specs.Listing.{saidLine, commandLine, afterCommand, eventLines, afterLines, stationLines}
+use Rattle.bench_run.specs.Listing.{saidLine, byEvent, commandLine, afterCommand, eventLines, afterLines, stationLines}
 use Rattle.bench_run.specs.OnTables.{commandLineOn, afterCommandOn, eventLinesOn, afterLinesOn, stationLineOn, stationLinesOn}
 
 -- the state after a command
-stateAfter : ℕ → State → Command → State
-stateAfter n s (Up u v) = advance n s (up u v)
-stateAfter n s (Down u v) = advance n s (down u v)
-stateAfter n s (Receive u v) = advance n s (receive u v)
-stateAfter n s Malformed = s
+stateAfter : ℕ → State → SaidCommand → State
+stateAfter n s c = byEvent (advance n s) s c
+
+-- what holds between two acts at every event, and between what stands for them at a malformed line, holds between them at every command
+module _ {A B : Type 0} (R : A → B → Type 0) where
+  either : (t : Bool) {x z : A} {y w : B} → R x y → R z w → R (cond t x z) (cond t y w)
+  either true p q = p
+  either false p q = q
+
+  by-event : {f : Event → A} {g : Event → B} {a : A} {b : B} → ((e : Event) → R (f e) (g e)) → R a b
+      → (c : SaidCommand) → R (byEvent f a c) (byEvent g b c)
+  unfolding byEvent
+  by-event each other c =
+      either (eqb (c .letter) 85) (each (up (c .first) (c .second))) (either (eqb (c .letter) 68) (each (down (c .first) (c .second)))
+      (either (eqb (c .letter) 77) (each (receive (c .first) (c .second))) other))
 
 module _ (n : ℕ) (low : 1 ≤ n) (few : n ≤ 16) where
   module _ (s : State) (good : Good n s) where
-    line-same : (k : ℕ) (c : Command) → commandLineOn n (tablesOf n (s .network)) k c ≡ commandLine n (s .network) k c
+    line-same : (k : ℕ) (c : SaidCommand) → commandLineOn n (tablesOf n (s .network)) k c ≡ commandLine n (s .network) k c
     unfolding commandLineOn commandLine
-    line-same k (Up u v) = ap (λ (o : Outcome). saidLine k (o .said)) (own-call n low few s good (up u v))
-    line-same k (Down u v) = ap (λ (o : Outcome). saidLine k (o .said)) (own-call n low few s good (down u v))
-    line-same k (Receive u v) = ap (λ (o : Outcome). saidLine k (o .said)) (own-call n low few s good (receive u v))
-    line-same k Malformed = refl
+    line-same k c =
+        by-event (λ (x y : List ℕ). x ≡ y) (λ (e : Event). ap (λ (o : Outcome). saidLine k (o .said)) (own-call n low few s good e)) refl c
 
-    after-same : (c : Command) → afterCommandOn n (tablesOf n (s .network)) c ≡ tablesOf n (afterCommand n (s .network) c)
+    after-same : (c : SaidCommand) → afterCommandOn n (tablesOf n (s .network)) c ≡ tablesOf n (afterCommand n (s .network) c)
     unfolding afterCommandOn afterCommand
-    after-same (Up u v) = ap (λ (o : Outcome). o .after) (own-call n low few s good (up u v))
-    after-same (Down u v) = ap (λ (o : Outcome). o .after) (own-call n low few s good (down u v))
-    after-same (Receive u v) = ap (λ (o : Outcome). o .after) (own-call n low few s good (receive u v))
-    after-same Malformed = refl
+    after-same =
+        by-event (λ (t : Tables) (p : Network). t ≡ tablesOf n p) (λ (e : Event). ap (λ (o : Outcome). o .after) (own-call n low few s good e)) refl
 
-    state-network : (c : Command) → stateAfter n s c .network ≡ afterCommand n (s .network) c
+    state-network : (c : SaidCommand) → stateAfter n s c .network ≡ afterCommand n (s .network) c
     unfolding stateAfter advance afterCommand
-    state-network (Up u v) = refl
-    state-network (Down u v) = refl
-    state-network (Receive u v) = refl
-    state-network Malformed = refl
+    state-network = by-event (λ (r : State) (p : Network). r .network ≡ p) (λ (e : Event). refl) refl
 
-    state-good : (c : Command) → Good n (stateAfter n s c)
+    state-good : (c : SaidCommand) → Good n (stateAfter n s c)
     unfolding stateAfter
-    state-good (Up u v) = good-advance n s (up u v) good
-    state-good (Down u v) = good-advance n s (down u v) good
-    state-good (Receive u v) = good-advance n s (receive u v) good
-    state-good Malformed = good
+    state-good = by-event (λ (r q : State). Good n r) {g = advance n s} {b = s} (λ (e : Event). good-advance n s e good) good
 
     stations-same : stationLinesOn n (tablesOf n (s .network)) ≡ stationLines n (s .network)
     unfolding stationLinesOn stationLineOn stationLines

@@ -6,13 +6,11 @@ use mathlib.Core.List.{List, [], _∷_, _++_}
 use lib.Count.{ones}
 use lib.Dec.{eqb, leb}
 use lib.ListN.{length}
-use Rattle.commands.specs.Commands.{linesOf, commandOf, headOf}
-use Rattle.commands.specs.declared.Command.{Command}
-use Rattle.commands.specs.declared.Command.the-variants.{Up, Down, Receive, Malformed}
+use Rattle.commands.specs.Commands.{SaidCommand, linesOf, commandOf, headOf}
 use Rattle.protocol.specs.Answer.{Said}
 use Rattle.protocol.specs.Network.{Network, fresh, own}
 use Rattle.protocol.specs.Refusal.{answer, next}
-use Rattle.protocol.specs.Step.{up, down, receive}
+use Rattle.protocol.specs.Step.{Event, up, down, receive}
 use Rattle.tables.specs.Rows.{rows}
 use Rattle.text.specs.Text.{decimal}
 
@@ -38,18 +36,19 @@ eventLine k code letter sent = decimal k ++ (32 ∷ (decimal code ++ (32 ∷ let
 unfoldable pub saidLine : ℕ → Said → List ℕ
 saidLine k s = eventLine k (s .number) (s .rule) (ones (s .sentTo))
 
--- what a command prints, as line k, and the network after it; a malformed line prints 15 and does nothing
-unfoldable pub commandLine : ℕ → Network → ℕ → Command → List ℕ
-commandLine n p k (Up u v) = saidLine k (answer n p (up u v))
-commandLine n p k (Down u v) = saidLine k (answer n p (down u v))
-commandLine n p k (Receive u v) = saidLine k (answer n p (receive u v))
-commandLine n p k Malformed = eventLine k 15 45 0
+-- `act` on the event that a command's letter names: U, D, or M (M u v is a receipt at v from u); else `other`.
+-- That is a malformed line and nothing more: no line says another letter (`commands`, proofs/Said.antt)
+unfoldable pub byEvent : {A : Type 0} → (Event → A) → A → SaidCommand → A
+byEvent act other c =
+    cond (eqb (c .letter) 85) (act (up (c .first) (c .second))) (cond (eqb (c .letter) 68) (act (down (c .first) (c .second)))
+    (cond (eqb (c .letter) 77) (act (receive (c .first) (c .second))) other))
 
-unfoldable pub afterCommand : ℕ → Network → Command → Network
-afterCommand n p (Up u v) = next n p (up u v)
-afterCommand n p (Down u v) = next n p (down u v)
-afterCommand n p (Receive u v) = next n p (receive u v)
-afterCommand n p Malformed = p
+-- what a command prints, as line k, and the network after it; a malformed line prints its number and does nothing
+unfoldable pub commandLine : ℕ → Network → ℕ → SaidCommand → List ℕ
+commandLine n p k c = byEvent (λ e. saidLine k (answer n p e)) (eventLine k (c .number) 45 0) c
+
+unfoldable pub afterCommand : ℕ → Network → SaidCommand → Network
+afterCommand n p c = byEvent (next n p) p c
 
 unfoldable pub eventLines : ℕ → Network → ℕ → List (List ℕ) → List ℕ
 eventLines n p k [] = []

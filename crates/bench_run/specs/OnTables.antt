@@ -2,27 +2,18 @@
 -- Definitions for the proof: nothing here has to be believed.
 use Prim.Native.Nat.{ℕ, suc}
 use mathlib.Core.List.{List, [], _∷_, _++_}
-use Rattle.commands.specs.Commands.{commandOf}
-use Rattle.commands.specs.declared.Command.{Command}
-use Rattle.commands.specs.declared.Command.the-variants.{Up, Down, Receive, Malformed}
+use Rattle.commands.specs.Commands.{SaidCommand, commandOf}
 use Rattle.election.specs.StepOn.{stepOn}
-use Rattle.protocol.specs.Step.{up, down, receive}
 use Rattle.tables.specs.Load.{clockAt, heightsAt}
 use Rattle.tables.specs.Rows.{rows}
 use Rattle.tables.specs.Tables.{Tables}
-use Rattle.bench_run.specs.Listing.{eventLine, saidLine, stationLine}
+use Rattle.bench_run.specs.Listing.{eventLine, saidLine, byEvent, stationLine}
 
-unfoldable pub commandLineOn : ℕ → Tables → ℕ → Command → List ℕ
-commandLineOn n t k (Up u v) = saidLine k (stepOn n (up u v) t .said)
-commandLineOn n t k (Down u v) = saidLine k (stepOn n (down u v) t .said)
-commandLineOn n t k (Receive u v) = saidLine k (stepOn n (receive u v) t .said)
-commandLineOn n t k Malformed = eventLine k 15 45 0
+unfoldable pub commandLineOn : ℕ → Tables → ℕ → SaidCommand → List ℕ
+commandLineOn n t k c = byEvent (λ e. saidLine k (stepOn n e t .said)) (eventLine k (c .number) 45 0) c
 
-unfoldable pub afterCommandOn : ℕ → Tables → Command → Tables
-afterCommandOn n t (Up u v) = stepOn n (up u v) t .after
-afterCommandOn n t (Down u v) = stepOn n (down u v) t .after
-afterCommandOn n t (Receive u v) = stepOn n (receive u v) t .after
-afterCommandOn n t Malformed = t
+unfoldable pub afterCommandOn : ℕ → Tables → SaidCommand → Tables
+afterCommandOn n t c = byEvent (λ e. stepOn n e t .after) t c
 
 unfoldable pub eventLinesOn : ℕ → Tables → ℕ → List (List ℕ) → List ℕ
 eventLinesOn n t k [] = []

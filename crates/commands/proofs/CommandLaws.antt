@@ -9,9 +9,7 @@ use borrow.Author.Tests.{eq-eqb, ne-eqb, not-true, not-false}
 use lib.Dec.{eqb, leb, ltb}
 use lib.ListN.{length, getD, take, drop, length-drop, drop-of-length-le}
 use lib.Seq.{take-all}
-use Rattle.commands.specs.declared.Command.{Command}
-use Rattle.commands.specs.declared.Command.the-variants.{Up, Down, Receive, Malformed}
-use Rattle.commands.specs.Commands.{numberOf, inRange, toSpace, named, commandOf, headOf}
+use Rattle.commands.specs.Commands.{SaidCommand, saidEvent, saidMalformed, numberOf, inRange, toSpace, named, commandOf, headOf}
 
 -- a part from k to the end is all but k bytes
 pub tail : (l : List ℕ) (k : ℕ) → take (length l - k) (drop k l) ≡ drop k l
@@ -45,35 +43,35 @@ head-none l e = rw e
 -- ---- a letter and two numbers
 
 module _ (kind u v : ℕ) where
-  pub named-unfit : not (ltb u 100 && ltb v 100) ≡ true → Malformed ≡ named kind u v
+  pub named-unfit : not (ltb u 100 && ltb v 100) ≡ true → saidMalformed ≡ named kind u v
   unfolding named
   named-unfit e = rw (not-true (ltb u 100 && ltb v 100) e)
 
   module _ (fit : not (ltb u 100 && ltb v 100) ≡ false) where
-    pub named-up : kind ≡ 85 → Up u v ≡ named kind u v
+    pub named-up : kind ≡ 85 → saidEvent 85 u v ≡ named kind u v
     unfolding named
     named-up e = rw (not-false (ltb u 100 && ltb v 100) fit, eq-eqb kind 85 e)
 
-    pub named-down : (kind ≡ 85 → ⊥) → kind ≡ 68 → Down u v ≡ named kind u v
+    pub named-down : (kind ≡ 85 → ⊥) → kind ≡ 68 → saidEvent 68 u v ≡ named kind u v
     unfolding named
     named-down d e = rw (not-false (ltb u 100 && ltb v 100) fit, ne-eqb kind 85 d, eq-eqb kind 68 e)
 
-    pub named-receive : (kind ≡ 85 → ⊥) → (kind ≡ 68 → ⊥) → kind ≡ 77 → Receive u v ≡ named kind u v
+    pub named-receive : (kind ≡ 85 → ⊥) → (kind ≡ 68 → ⊥) → kind ≡ 77 → saidEvent 77 u v ≡ named kind u v
     unfolding named
     named-receive d e f = rw (not-false (ltb u 100 && ltb v 100) fit, ne-eqb kind 85 d, ne-eqb kind 68 e, eq-eqb kind 77 f)
 
-    pub named-none : (kind ≡ 85 → ⊥) → (kind ≡ 68 → ⊥) → (kind ≡ 77 → ⊥) → Malformed ≡ named kind u v
+    pub named-none : (kind ≡ 85 → ⊥) → (kind ≡ 68 → ⊥) → (kind ≡ 77 → ⊥) → saidMalformed ≡ named kind u v
     unfolding named
     named-none d e f = rw (not-false (ltb u 100 && ltb v 100) fit, ne-eqb kind 85 d, ne-eqb kind 68 e, ne-eqb kind 77 f)
 
 -- ---- an event line
 
-abbrev pub numberedOf : ℕ → List ℕ → Command
+abbrev pub numberedOf : ℕ → List ℕ → SaidCommand
 numberedOf kind l = named kind (numberOf (take (toSpace l) l)) (numberOf (drop (suc (toSpace l)) l))
 
 -- k is the place of the space, or the length where there is none: then the second number is missing
 module _ (kind : ℕ) (l : List ℕ) (k : ℕ) (at : k ≡ toSpace l) where
-  pub numbered-end : k ≡ length l → Malformed ≡ numberedOf kind l
+  pub numbered-end : k ≡ length l → saidMalformed ≡ numberedOf kind l
   unfolding named numberOf
   numbered-end e =
       let past : length l ≤ suc (toSpace l) = omega arith in
@@ -87,7 +85,7 @@ module _ (kind : ℕ) (l : List ℕ) (k : ℕ) (at : k ≡ toSpace l) where
       let second : v ≡ numberOf (drop (suc (toSpace l)) l) = q ∙ ap numberOf (tail l (k + 1)) ∙ ap (λ j. numberOf (drop j l)) next in
       ap₂ (named kind) first second
 
-pub command-short : (l : List ℕ) → length l < 2 → Malformed ≡ commandOf l
+pub command-short : (l : List ℕ) → length l < 2 → saidMalformed ≡ commandOf l
 unfolding commandOf
 command-short l h = rw (second-short l h)
 
@@ -95,6 +93,6 @@ pub command-is : (l : List ℕ) → getD l 1 0 ≡ 32 → numberedOf (getD l 0 0
 unfolding commandOf
 command-is l e = rw e
 
-pub command-none : (l : List ℕ) → (getD l 1 0 ≡ 32 → ⊥) → Malformed ≡ commandOf l
+pub command-none : (l : List ℕ) → (getD l 1 0 ≡ 32 → ⊥) → saidMalformed ≡ commandOf l
 unfolding commandOf
 command-none l d = rw (ne-eqb (getD l 1 0) 32 d)

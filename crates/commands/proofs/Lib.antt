@@ -3,4 +3,5 @@
 pub mod Seeking
 pub mod NumberLaws
 pub mod CommandLaws
+pub mod Said
 pub mod LineLaws

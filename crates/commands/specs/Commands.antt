@@ -39,22 +39,41 @@ numberOf (a ∷ b ∷ c ∷ l) = none
 
 -- ---- commands
 
+-- what an event line says; every promise about a command goes through `saidCommand`, which is injective (proofs/Said.antt)
+pub record SaidCommand : Type 0 where
+  pub number : ℕ  -- 0: it names an event; 15: malformed
+  pub letter : ℕ  -- U, D or M in ASCII; 0 when malformed
+  pub first : ℕ  -- its two numbers as they stand in the line; 0 when malformed
+  pub second : ℕ
+
+abbrev pub saidEvent : ℕ → ℕ → ℕ → SaidCommand
+saidEvent letter u v = record { number = 0; letter = letter; first = u; second = v }
+
+abbrev pub saidMalformed : SaidCommand
+saidMalformed = record { number = 15; letter = 0; first = 0; second = 0 }
+
+abbrev pub saidCommand : Command → SaidCommand
+saidCommand (Up u v) = saidEvent 85 u v
+saidCommand (Down u v) = saidEvent 68 u v
+saidCommand (Receive u v) = saidEvent 77 u v
+saidCommand Malformed = saidMalformed
+
 -- how many bytes stand before the first space (32)
 unfoldable pub toSpace : List ℕ → ℕ
 toSpace [] = 0
 toSpace (b ∷ bs) = cond (eqb b 32) 0 (suc (toSpace bs))
 
 -- U, D or M with two numbers
-unfoldable pub named : ℕ → ℕ → ℕ → Command
+unfoldable pub named : ℕ → ℕ → ℕ → SaidCommand
 named kind u v =
     cond (ltb u none && ltb v none)
-    (cond (eqb kind 85) (Up u v) (cond (eqb kind 68) (Down u v) (cond (eqb kind 77) (Receive u v) Malformed))) Malformed
+    (cond (eqb kind 85) (saidEvent 85 u v) (cond (eqb kind 68) (saidEvent 68 u v) (cond (eqb kind 77) (saidEvent 77 u v) saidMalformed))) saidMalformed
 
 -- an event line: "U u v", "D u v" or "M u v" (receipt at v from u)
-unfoldable pub commandOf : List ℕ → Command
+unfoldable pub commandOf : List ℕ → SaidCommand
 commandOf l =
     cond (eqb (getD l 1 0) 32)
-    (named (getD l 0 0) (numberOf (take (toSpace (drop 2 l)) (drop 2 l))) (numberOf (drop (suc (toSpace (drop 2 l))) (drop 2 l)))) Malformed
+    (named (getD l 0 0) (numberOf (take (toSpace (drop 2 l)) (drop 2 l))) (numberOf (drop (suc (toSpace (drop 2 l))) (drop 2 l)))) saidMalformed
 
 -- the first line "N n", n from 1 to 16; 0 for any other
 abbrev pub inRange : ℕ → ℕ

@@ -4,9 +4,9 @@ ghost use mathlib.Core.List.{[], _∷_};
 ghost use mathlib.Core.Path.{_≡_};
 ghost use Prim.Native.Nat.{suc, _+_, _≤_};
 ghost use lib.ListN.{length, take, drop};
-ghost use Rattle.commands.specs.Commands.{isDigit, numberOf, inRange, toSpace, toNewline, named, commandOf, headOf};
+ghost use Rattle.commands.specs.Commands.{isDigit, numberOf, inRange, toSpace, toNewline, saidCommand, named, commandOf, headOf};
 
-// What an event line names.
+// What an event line names, or that it is malformed (15).
 pub enum Command {
     Up(u32, u32),
     Down(u32, u32),
@@ -105,7 +105,7 @@ pub fn head(line: &[u8]) -> u32
 
 // The event of a letter and two numbers, each below 100.
 fn event(kind: u8, u: u32, v: u32) -> Command
-    ensures { λ r. ⌜ r ≡ named kind u v ⌝ }
+    ensures { λ r. ⌜ saidCommand r ≡ named kind u v ⌝ }
 {
     if !((u < 100) & (v < 100)) {
         return Command::Malformed;
@@ -124,7 +124,7 @@ fn event(kind: u8, u: u32, v: u32) -> Command
 
 // The event of a letter and of the text of two numbers, with one space between.
 fn numbered(kind: u8, rest: &[u8]) -> Command
-    ensures { λ r. ⌜ (let l = now (rest .entry) in r ≡ named kind (numberOf (take (toSpace l) l)) (numberOf (drop (suc (toSpace l)) l))) ⌝ }
+    ensures { λ r. ⌜ (let l = now (rest .entry) in saidCommand r ≡ named kind (numberOf (take (toSpace l) l)) (numberOf (drop (suc (toSpace l)) l))) ⌝ }
 {
     let k = to_space(rest);
     if k == rest.len() {
@@ -135,7 +135,7 @@ fn numbered(kind: u8, rest: &[u8]) -> Command
 
 // The event that a line names.
 pub fn parse(line: &[u8]) -> Command
-    ensures { λ r. ⌜ r ≡ commandOf (now (line .entry)) ⌝ }
+    ensures { λ r. ⌜ saidCommand r ≡ commandOf (now (line .entry)) ⌝ }
 {
     if line.len() < 2 {
         return Command::Malformed;

@@ -188,7 +188,8 @@ fn hear(n: u32, v: u32, u: u32, nodes: &mut [u32], channels: &mut [u32]) -> Answ
     let Moved::To(t) = clock.after(stamp) else {
         return Answer::Refused(Refusal::ClockEnd);
     };
-    let neighbors = nodeset::insert(tables::rows::neighbors(row), v);
+    let linked = tables::rows::neighbors(row);
+    let neighbors = nodeset::insert(linked, v);
     let forming = nodeset::remove(tables::rows::forming(row), v);
     let rule = decision::rule::of_receipt(n, neighbors, row, u, v, view);
     super::finish::finish(

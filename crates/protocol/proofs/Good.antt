@@ -3,15 +3,19 @@
 use Prim.Native.Nat.{ℕ}
 use mathlib.Core.Bool.{true, cond}
 use mathlib.Core.List.{List, [], _∷_}
-use mathlib.Core.Path.{_≡_, refl}
+use mathlib.Core.Path.{_≡_, refl, sym, ap, _∙_}
 use borrow.Author.Tests.{eqb-true}
-use Rattle.protocol.specs.History.{Told, State, started, entry, advance, advanced, grown}
+use lib.Dec.{eqb}
+use Rattle.nodeset.specs.NodeSet.{setOf}
+use Rattle.protocol.specs.Answer.{Said}
+use Rattle.protocol.specs.History.{Told, State, started, entered, advance, advanced, grown}
 use Rattle.protocol.specs.Network.{Network}
-use Rattle.protocol.specs.Refusal.{returned, accepts, next}
-use Rattle.protocol.specs.Step.{Event, step}
+use Rattle.protocol.specs.Refusal.{returned, accepts, answer, next}
+use Rattle.protocol.specs.Step.{Event, local, step}
 use Rattle.protocol.proofs.Accepted.{Accepted, accepted}
 use Rattle.protocol.proofs.HistoryLaws.{event-told}
 use Rattle.protocol.proofs.Invariant.{Inv}
+use Rattle.protocol.proofs.Said.{rule-said}
 use Rattle.protocol.proofs.StepKeeps.{step-keeps, fresh-inv}
 use Rattle.protocol.proofs.Soundness.{Fits, fresh-fits}
 use Rattle.protocol.proofs.StepFits.{step-fits}
@@ -29,23 +33,36 @@ pub accepts-accepted : (n : ℕ) (p : Network) (e : Event) → accepts n p e ≡
 unfolding accepts
 accepts-accepted n p e i = accepted n p e (eqb-true (returned n p e) 0 i)
 
+-- the number in an answer is the returned one
+pub answer-number : (n : ℕ) (p : Network) (e : Event) → answer n p e .number ≡ returned n p e
+unfolding answer accepts
+answer-number n p e = go (choice (eqb (returned n p e) 0))
+  where
+    go : Choice (eqb (returned n p e) 0) → answer n p e .number ≡ returned n p e
+    go (yes! i) =
+        rw i (ap (λ (s : Said). s .number) (rule-said (local n p e .rule) (setOf n (local n p e .sent))) ∙ sym (eqb-true (returned n p e) 0 i))
+    go (no! i) = rw i
+
 pub good-advance : (n : ℕ) (s : State) (e : Event) → Good n s → Good n (advance n s e)
-unfolding advance next
+unfolding advance next accepts
 good-advance n s e g = go (choice (accepts n (s .network) e))
   where
     p : Network
     p = s .network
 
-    go : Choice (accepts n (s .network) e)
-        → Good n (record { network = cond (accepts n p e) (step n p e) p; history = cond (accepts n p e) (entry n p e ∷ s .history) (s .history) })
+    said : eqb (answer n p e .number) 0 ≡ eqb (returned n p e) 0
+    said = ap (λ k. eqb k 0) (answer-number n p e)
+
+    go : Choice (accepts n p e)
+        → Good n (record { network = cond (accepts n p e) (step n p e) p; history = entered e (answer n p e) (s .history) })
     go (yes! i) =
         let ok = accepts-accepted n p e i in
-        rw i (record {
+        rw (i, said ∙ i) (record {
           inv = step-keeps n p e (g .inv) ok;
           fits = step-fits n p e (g .fits) ok;
           told = event-told n p (s .history) e (g .fits) i ok (g .told);
         })
-    go (no! i) = rw i g
+    go (no! i) = rw (i, said ∙ i) g
 
 pub good-advanced : (n : ℕ) (s : State) (es : List Event) → Good n s → Good n (advanced n s es)
 unfolding advanced

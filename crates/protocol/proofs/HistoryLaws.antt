@@ -16,7 +16,7 @@ use Rattle.protocol.specs.Functions.{update}
 use Rattle.protocol.specs.History.{History, turned, upIn, isDown, isSending, isReceipt, sentSince, receivedSince, Told, entry}
 use Rattle.protocol.specs.Holds.{isEmpty}
 use Rattle.protocol.specs.Network.{Message, Network, upTo}
-use Rattle.protocol.specs.Refusal.{accepts}
+use Rattle.protocol.specs.Refusal.{accepts, answer}
 use Rattle.protocol.specs.Step.{Event, up, down, receive, home, Local, carried, localUp, localDown}
 use Rattle.protocol.specs.Step.{localIgnored, localTaken, localReceipt, local, cleared, commit, step}
 use Rattle.protocol.proofs.Accepted.{Accepted}
@@ -111,7 +111,7 @@ cleared-count n p e ok u v h = go (choice (isReceipt e u v))
     go (no! r) = rw (r, cleared-off p e u v h r) (omega arith)
 
 pub event-told : (n : ℕ) (p : Network) (h : History) (e : Event) → Fits n p → accepts n p e ≡ true → Accepted n p e
-    → Told h p → Told (entry n p e ∷ h) (step n p e)
+    → Told h p → Told (entry e (answer n p e) ∷ h) (step n p e)
 unfolding step
 event-told n p h e fits zero! ok told = record { ups = ups; counts = counts }
   where
@@ -121,7 +121,7 @@ event-told n p h e fits zero! ok told = record { ups = ups; counts = counts }
     after : Network
     after = commit p (home e) l (cleared p e)
 
-    sending : (u v : ℕ) → isSending (entry n p e) u v ≡ (eqb u (home e) && l .sent v)
+    sending : (u v : ℕ) → isSending (entry e (answer n p e)) u v ≡ (eqb u (home e) && l .sent v)
     sending u v = rw (answer-sent n p e zero!, sent-member n p e fits ok v)
 
     ups : (u v : ℕ) → turned e u v (upIn h u v) ≡ upTo after u v
@@ -134,7 +134,7 @@ event-told n p h e fits zero! ok told = record { ups = ups; counts = counts }
     Counted : ℕ → ℕ → Type 0
     Counted u v =
         cond (isDown e u v) 0 (digit (isReceipt e u v) + receivedSince h u v) + length (after .channel u v)
-        ≡ cond (isDown e u v) 0 (digit (isSending (entry n p e) u v) + sentSince h u v)
+        ≡ cond (isDown e u v) 0 (digit (isSending (entry e (answer n p e)) u v) + sentSince h u v)
 
     counts : (u v : ℕ) → Counted u v
     counts u v = go (choice (isDown e u v))

@@ -25,6 +25,7 @@ pub mod Good
 pub mod SoundStep
 pub mod Locality
 pub mod Leaders
+pub mod SavesLaws
 pub mod Runs
 pub mod Cases
 pub mod Theorems

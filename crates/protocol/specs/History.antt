@@ -1,4 +1,4 @@
--- The history: document 01, "Lists of calls". The accepted events, newest first, each with its moved clock and what was said.
+-- The history: document 01, "Lists of calls". The accepted events, newest first, each with what was said.
 -- Up, and messages waiting, by the history alone.
 use Prim.Native.Nat.{ℕ, _+_, _-_}
 use mathlib.Core.Bool.{Bool, true, false, cond, _&&_}
@@ -9,16 +9,22 @@ use lib.ListN.{length}
 use Rattle.nodeset.specs.NodeSet.{member, digit}
 use Rattle.protocol.specs.Answer.{Said}
 use Rattle.protocol.specs.Network.{Network, upTo, fresh}
-use Rattle.protocol.specs.Refusal.{accepts, answer, next}
-use Rattle.protocol.specs.Step.{Event, up, down, receive, home, local}
+use Rattle.protocol.specs.Refusal.{answer, next}
+use Rattle.protocol.specs.Step.{Event, up, down, receive, home}
 
 pub record Entry : Type 0 where
   pub event : Event
-  pub clock : ℕ
   pub said : Said
 
 abbrev pub History : Type 0
 History = List Entry
+
+abbrev pub entry : Event → Said → Entry
+entry e s = record { event = e; said = s }
+
+-- an event that was said to be accepted enters the history
+abbrev pub entered : Event → Said → History → History
+entered e s h = cond (eqb (s .number) 0) (entry e s ∷ h) h
 
 -- ---- channel u to v is up exactly when the last up or down of u, v in the history is an up
 
@@ -75,13 +81,9 @@ pub record State : Type 0 where
 abbrev pub started : State
 started = record { network = fresh; history = [] }
 
-abbrev pub entry : ℕ → Network → Event → Entry
-entry n p e = record { event = e; clock = local n p e .clock; said = answer n p e }
-
--- after an event: an accepted one enters the history, a refused one changes nothing
+-- after an event, accepted or refused
 unfoldable pub advance : ℕ → State → Event → State
-advance n s e =
-    record { network = next n (s .network) e; history = cond (accepts n (s .network) e) (entry n (s .network) e ∷ s .history) (s .history) }
+advance n s e = record { network = next n (s .network) e; history = entered e (answer n (s .network) e) (s .history) }
 
 -- after a list of events, refused ones among them
 unfoldable pub advanced : ℕ → State → List Event → State

@@ -11,19 +11,19 @@ use Rattle.image.specs.Places.{imageEnd, tablesIn}
 use Rattle.network.specs.Check.{SaidCheck, checked, firstFault}
 use Rattle.reading.specs.declared.Walk.{Walk}
 use Rattle.reading.specs.declared.Walk.the-variants.{At, Over, Cut}
-use Rattle.reading.specs.Examine.{Walkable, saidStopped, afterWalk, examined}
-use Rattle.reading.specs.Walk.{walk, endsAt}
+use Rattle.reading.specs.Examine.{Walkable, afterWalk, examined}
+use Rattle.reading.specs.Walk.{saidWalk, walk, endsAt}
 use Rattle.reading.proofs.Steps.{Stopped}
 use Rattle.reading.proofs.WalkLaws.{walk-accepted}
 
-stopped-after : (h d n : ℕ) (l : List ℕ) (w : Walk) → Stopped w → saidStopped w ≡ afterWalk h d n l w
+stopped-after : (h d n : ℕ) (l : List ℕ) (w : Walk) → Stopped w → saidWalk w ≡ afterWalk h d n l w
 unfolding afterWalk
 stopped-after h d n l (At q) k = absurd (miss (1 ∷ 2 ∷ []) 0 tt k)
 stopped-after h d n l (Over u v) k = refl
 stopped-after h d n l Cut k = refl
 
 module _ (h d n : ℕ) (l : List ℕ) {w : Walk} (walks : w ≡ walk h d n l) where
-  pub examined-stops : {x : SaidCheck} → x ≡ saidStopped w → Stopped w → x ≡ examined h d n l
+  pub examined-stops : {x : SaidCheck} → x ≡ saidWalk w → Stopped w → x ≡ examined h d n l
   unfolding examined
   examined-stops e k = e ∙ stopped-after h d n l w k ∙ ap (afterWalk h d n l) walks
 

@@ -16,8 +16,9 @@ use Rattle.places.specs.Place.{placeIn}
 use Rattle.reading.specs.declared.Walk.{Walk}
 use Rattle.reading.specs.declared.Walk.the-variants.{At, Over, Cut}
 use Rattle.reading.specs.Cells.{cellIn, cellBehind}
-use Rattle.reading.specs.Examine.{Walkable, saidStopped}
-use Rattle.reading.specs.Search.{rowHolds, saidSearched, Searched}
+use Rattle.reading.specs.Examine.{Walkable}
+use Rattle.reading.specs.Search.{rowHolds, Searched}
+use Rattle.reading.specs.Walk.{saidWalk}
 use Rattle.reading.proofs.ReadLaws.{ChannelAt, ChannelsAt, row-got, cell-behind, cell-got}
 use Rattle.reading.proofs.ShapeLaws.{records-shaped}
 use Rattle.reading.proofs.Steps.{Stopped}
@@ -68,7 +69,7 @@ pub record RowsHeld (s : ℕ → ℕ → Bool) (n u : ℕ) : Type 0 where
   pub high : u ≤ n
   pub same : faultFrom s n 1 n ≡ faultFrom s n (u + 1) (n - u)
 
-stopped-first : (w : Walk) (rest : SaidCheck) → Stopped w → orElse (saidSearched w) rest ≡ saidStopped w
+stopped-first : (w : Walk) (rest : SaidCheck) → Stopped w → orElse (saidWalk w) rest ≡ saidWalk w
 stopped-first (At q) rest k = absurd (miss (1 ∷ 2 ∷ []) 0 tt k)
 stopped-first (Over u v) rest k = refl
 stopped-first Cut rest k = refl
@@ -83,8 +84,8 @@ module _ {s : ℕ → ℕ → Bool} {n : ℕ} where
     rows-held-all h = let k : n - u ≡ 0 = omega arith in sym (held .same ∙ ap (faultFrom s n (u + 1)) k)
 
     -- w is what the search of the next row gave
-    module _ (h : u < n) (w : Walk) (said : saidSearched w ≡ faultInRow s (u + 1) 1 n) where
-      row : faultFrom s n 1 n ≡ orElse (saidSearched w) (faultFrom s n (u + 1 + 1) (n - (u + 1)))
+    module _ (h : u < n) (w : Walk) (said : saidWalk w ≡ faultInRow s (u + 1) 1 n) where
+      row : faultFrom s n 1 n ≡ orElse (saidWalk w) (faultFrom s n (u + 1 + 1) (n - (u + 1)))
       unfolding faultFrom
       row =
           let k : n - u ≡ suc (n - (u + 1)) = omega arith in
@@ -95,10 +96,10 @@ module _ {s : ℕ → ℕ → Bool} {n : ℕ} where
       pub rows-held-next : {p : ℕ} → w ≡ At p → RowsHeld s n (u + 1)
       rows-held-next e = record {
         high = omega arith;
-        same = row ∙ ap (λ (x : Walk). orElse (saidSearched x) (faultFrom s n (u + 1 + 1) (n - (u + 1)))) e;
+        same = row ∙ ap (λ (x : Walk). orElse (saidWalk x) (faultFrom s n (u + 1 + 1) (n - (u + 1)))) e;
       }
 
-      pub rows-held-fault : Stopped w → saidStopped w ≡ faultFrom s n 1 n
+      pub rows-held-fault : Stopped w → saidWalk w ≡ faultFrom s n 1 n
       rows-held-fault k = sym (row ∙ stopped-first w (faultFrom s n (u + 1 + 1) (n - (u + 1))) k)
 
 -- ---- the rows and cells read are those of the tables

@@ -11,23 +11,17 @@ use Rattle.reading.specs.declared.Examined.{Examined}
 use Rattle.reading.specs.declared.Examined.the-variants.{Sound, Fault, BadEnd}
 use Rattle.reading.specs.declared.Walk.{Walk}
 use Rattle.reading.specs.declared.Walk.the-variants.{At, Over, Cut}
-use Rattle.reading.specs.Walk.{walk, endsAt}
+use Rattle.reading.specs.Walk.{saidWalk, walk, endsAt}
 
 abbrev pub saidExamined : Examined → SaidCheck
 saidExamined Sound = checked 0 0 0
 saidExamined (Fault u v) = checked 2 u v
 saidExamined BadEnd = checked 12 0 0
 
--- a walk that stopped; one that did not is never answered so
-abbrev pub saidStopped : Walk → SaidCheck
-saidStopped (At q) = checked 12 0 0
-saidStopped (Over u v) = checked 2 u v
-saidStopped Cut = checked 12 0 0
-
 unfoldable pub afterWalk : ℕ → ℕ → ℕ → List ℕ → Walk → SaidCheck
 afterWalk h d n l (At q) = cond (endsAt l q) (firstFault n (tablesIn h d n l)) (checked 12 0 0)
-afterWalk h d n l (Over u v) = checked 2 u v
-afterWalk h d n l Cut = checked 12 0 0
+afterWalk h d n l (Over u v) = saidWalk (Over u v)
+afterWalk h d n l Cut = saidWalk Cut
 
 unfoldable pub examined : ℕ → ℕ → ℕ → List ℕ → SaidCheck
 examined h d n l = afterWalk h d n l (walk h d n l)

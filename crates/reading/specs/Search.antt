@@ -4,23 +4,18 @@ use Prim.Native.Nat.{ℕ}
 use mathlib.Core.Bool.{Bool}
 use mathlib.Core.List.{List}
 use mathlib.Core.Path.{_≡_}
-use Rattle.network.specs.Check.{SaidCheck, checked}
+use Rattle.network.specs.Check.{SaidCheck}
 use Rattle.places.specs.Place.{placeIn}
 use Rattle.reading.specs.declared.Walk.{Walk}
-use Rattle.reading.specs.declared.Walk.the-variants.{At, Over, Cut}
+use Rattle.reading.specs.declared.Walk.the-variants.{At}
 use Rattle.reading.specs.Cells.{cellBehind}
+use Rattle.reading.specs.Walk.{saidWalk}
 
 -- the place u v, with u's row; the channels from u start at q
 unfoldable pub rowHolds : ℕ → ℕ → List ℕ → List ℕ → ℕ → ℕ → ℕ → Bool
 rowHolds d n l row q u v = placeIn n u v row (cellBehind d l u q v)
 
--- what a search says that went on behind its row, or stopped at a pair; none is cut off
-abbrev pub saidSearched : Walk → SaidCheck
-saidSearched (At q) = checked 0 0 0
-saidSearched (Over u v) = checked 2 u v
-saidSearched Cut = checked 12 0 0
-
 -- the answer of a search of a row whose first fault is s and whose channels end at q
 pub record Searched (s : SaidCheck) (q : ℕ) (w : Walk) : Type 0 where
-  pub said : saidSearched w ≡ s
+  pub said : saidWalk w ≡ s
   pub ends : (p : ℕ) → w ≡ At p → p ≡ q

@@ -8,9 +8,16 @@ use lib.ListN.{length, drop}
 use Rattle.bits.specs.Bits.{number}
 use Rattle.image.specs.Places.{fieldIn, channelsPlace}
 use Rattle.image.specs.Widths.{messageWidth}
+use Rattle.network.specs.Check.{SaidCheck, checked}
 use Rattle.protocol.specs.Network.{capacity}
 use Rattle.reading.specs.declared.Walk.{Walk}
 use Rattle.reading.specs.declared.Walk.the-variants.{At, Over, Cut}
+
+-- 0 where it goes on, 2 with the pair at which it stopped, 12 where it was cut off
+abbrev pub saidWalk : Walk → SaidCheck
+saidWalk (At q) = checked 0 0 0
+saidWalk (Over u v) = checked 2 u v
+saidWalk Cut = checked 12 0 0
 
 -- channel u to v, which starts at q: a count of 4 bits, then so many messages; none from a node to itself
 unfoldable pub channelStep : ℕ → List ℕ → ℕ → ℕ → ℕ → Walk

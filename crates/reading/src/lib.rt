@@ -5,7 +5,7 @@ ghost use Prim.Native.Nat.{_≤_};
 ghost use Rattle.bits.specs.Bits.{unpacked};
 ghost use Rattle.image.specs.Places.{tablesIn};
 ghost use Rattle.reading.specs.Examine.{Walkable, saidExamined, examined};
-ghost use Rattle.reading.specs.Header.{headerOf};
+ghost use Rattle.reading.specs.Header.{saidHeader, headerOf};
 ghost use Rattle.tables.specs.Tables.{given, after, Sized};
 
 mod contents;
@@ -42,7 +42,7 @@ pub enum Examined {
 
 // The header, for any bytes whatever.
 pub fn decode(image: &[u8]) -> Header
-    ensures { λ r. ⌜ r ≡ headerOf (now (image .entry)) ⌝ }
+    ensures { λ r. ⌜ saidHeader r ≡ headerOf (now (image .entry)) ⌝ }
 {
     if image.len() < 4 {
         return Header::Short;

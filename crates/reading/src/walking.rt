@@ -5,8 +5,8 @@ ghost use Prim.Native.Nat.{_+_, _*_, _^_, _≤_, _<_};
 ghost use lib.ListN.{length};
 ghost use Rattle.bits.specs.Bits.{unpacked};
 ghost use Rattle.image.specs.Parts.{Depth};
-ghost use Rattle.reading.specs.Examine.{saidExamined, saidStopped};
-ghost use Rattle.reading.specs.Walk.{channelStep, channelsFromWalk, channelsWalk, walk, endsAt};
+ghost use Rattle.reading.specs.Examine.{saidExamined};
+ghost use Rattle.reading.specs.Walk.{saidWalk, channelStep, channelsFromWalk, channelsWalk, walk, endsAt};
 use super::Examined;
 use super::Walk;
 
@@ -92,12 +92,12 @@ pub fn ends_at(bytes: &[u8], at: usize) -> bool
     bits::get(bytes, at, (8 - at % 8) % 8) == 0
 }
 
-// What a walk that stopped is answered with.
+// What a walk says, as an answer.
 pub fn stopped(w: Walk) -> Examined
-    ensures { λ r. ⌜ saidExamined r ≡ saidStopped w ⌝ }
+    ensures { λ r. ⌜ saidExamined r ≡ saidWalk w ⌝ }
 {
     match w {
-        Walk::At(_) => Examined::BadEnd,
+        Walk::At(_) => Examined::Sound,
         Walk::Over(u, v) => Examined::Fault(u, v),
         Walk::Cut => Examined::BadEnd,
     }

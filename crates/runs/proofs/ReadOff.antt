@@ -4,20 +4,18 @@ use Prim.Native.Nat.{ℕ, _≤_}
 use mathlib.Core.Bool.{true}
 use mathlib.Core.List.{List}
 use mathlib.Core.Path.{_≡_, sym, subst, fun-ext}
-use Rattle.image.specs.Image.{image}
 use Rattle.protocol.specs.Component.{Node, OneLeader, quiet}
 use Rattle.protocol.specs.History.{State, upIn}
-use Rattle.protocol.specs.Network.{Network, fresh, upTo, own}
+use Rattle.protocol.specs.Network.{Network, upTo, own}
 use Rattle.protocol.specs.Run.{Call}
 use Rattle.protocol.proofs.Good.{Good}
 use Rattle.protocol.proofs.Leaders.{quiet-leader, quiet-quiescent}
-use Rattle.protocol.proofs.Runs.{run-sane}
+use Rattle.protocol.proofs.Runs.{stateOf}
 use Rattle.protocol.proofs.Theorems.{Steady, good-steady}
-use Rattle.tables.specs.Load.{load, tablesOf}
-use Rattle.runs.specs.Images.{readImage, after, Allowed}
-use Rattle.runs.specs.OnTables.{tablesAfterAll}
-use Rattle.runs.proofs.ImageBack.{read-back}
-use Rattle.runs.proofs.TablesRun.{on-tables}
+use Rattle.runs.specs.OnTables.{Allowed}
+use Rattle.runs.proofs.Demand3.{networkAt}
+use Rattle.runs.proofs.Simulation.{from-fresh}
+use Rattle.runs.proofs.TablesRun.{meantAfter, on-tables}
 
 -- ---- the statement
 
@@ -27,7 +25,7 @@ pub record Settled (n : ℕ) (p : Network) : Type 0 where
   pub one-leader : quiet n p ≡ true → (u : ℕ) → Node n u → OneLeader n (upTo p) (own p) u
 
 abbrev pub Statement : Type 0
-Statement = (n : ℕ) → 1 ≤ n → n ≤ 16 → (cs : List Call) → Allowed n cs → Settled n (load n (tablesAfterAll (tablesOf n fresh) cs))
+Statement = (n : ℕ) → 1 ≤ n → n ≤ 16 → (cs : List Call) → Allowed n cs → Settled n (networkAt n cs)
 
 -- ---- the proof
 
@@ -43,4 +41,4 @@ settled n s g = record {
 pub read-off : Statement
 read-off n low few cs allowed =
     subst (Settled n) (sym (on-tables n low few cs allowed .network-is))
-    (settled n (after n cs .now) (run-sane image readImage n (read-back n low few) cs allowed .good))
+    (settled n (stateOf (meantAfter n cs)) (from-fresh n low few cs allowed .sane .good))

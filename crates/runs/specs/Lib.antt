@@ -1,4 +1,4 @@
--- Lists of calls with saves and restores.
+-- Lists of calls with saves and restores: on lent tables, and by the meaning.
 -- Assumes nothing: these are definitions.
-pub mod Images
 pub mod OnTables
+pub mod ByMeaning

@@ -1,39 +1,36 @@
--- The same lists of calls on lent tables: what each call answers, and the tables after it.
--- The definitions are those that the contracts of `election` and `snapshot` equate to.
+-- Lists of calls on lent tables: what each call answers, and the tables after it; with the history and the accepted saves, the whole run.
+-- What a call answers and leaves is what its contract equates to: `stepOn`, `saveOn`, `restoreOn`.
 use Prim.Native.Nat.{ℕ}
-use mathlib.Core.Bool.{cond}
 use mathlib.Core.List.{List, [], _∷_}
-use lib.Dec.{eqb}
-use lib.ListN.{replicate}
-use Rattle.election.specs.RunOn.{saidTo}
-use Rattle.election.specs.StepOn.{stepOn}
-use Rattle.image.specs.Image.{image}
+use lib.ListN.{take}
+use Rattle.election.specs.StepOn.{Outcome, stepOn}
 use Rattle.network.specs.Check.{SaidCheck}
+use Rattle.network.specs.Fresh.{Filled}
 use Rattle.protocol.specs.Answer.{Said}
 use Rattle.protocol.specs.Network.{fresh}
-use Rattle.protocol.specs.Run.{Call, event, save, restore, RunState}
+use Rattle.protocol.specs.Run.{Call, event, save, restore, Stepped, Returned, Calls, RunState, startOfRun, act, perform, AllFair}
 use Rattle.snapshot.specs.Restore.{restoreOn}
-use Rattle.snapshot.specs.Save.{SaidSave, saidSaved, put, saveOn}
+use Rattle.snapshot.specs.Save.{SaveOutcome, saveOn}
 use Rattle.tables.specs.Load.{tablesOf}
 use Rattle.tables.specs.Tables.{Tables}
-use Rattle.runs.specs.Images.{then}
 
+-- ---- calls one after the other
+
+-- what a call answers; of a save also the lent bytes after it
 pub data Reply : Type 0 where
   toEvent : Said → Reply
-  toSave : SaidSave → Reply
+  toSave : SaveOutcome → Reply
   toRestore : SaidCheck → Reply
-
--- ---- on tables
-
-unfoldable pub tablesAfter : Tables → Call → Tables
-tablesAfter t (event m e) = stepOn m e t .after
-tablesAfter t (save m room) = t
-tablesAfter t (restore b) = restoreOn b t .after
 
 unfoldable pub reply : Tables → Call → Reply
 reply t (event m e) = toEvent (stepOn m e t .said)
-reply t (save m room) = toSave (saveOn m t (replicate room 0) .said)
+reply t (save m out) = toSave (saveOn m t out)
 reply t (restore b) = toRestore (restoreOn b t .said)
+
+unfoldable pub tablesAfter : Tables → Call → Tables
+tablesAfter t (event m e) = stepOn m e t .after
+tablesAfter t (save m out) = t
+tablesAfter t (restore b) = restoreOn b t .after
 
 unfoldable pub tablesAfterAll : Tables → List Call → Tables
 tablesAfterAll t [] = t
@@ -43,14 +40,39 @@ unfoldable pub replies : Tables → List Call → List Reply
 replies t [] = []
 replies t (c ∷ cs) = reply t c ∷ replies (tablesAfter t c) cs
 
--- ---- by the meaning
+-- ---- the run
 
-unfoldable pub replyTo : ℕ → RunState → Call → Reply
-replyTo n w (event m e) = toEvent (saidTo n (w .now) (record { size = m; event = e }))
-replyTo n w (save m room) =
-    toSave (cond (eqb m n) (put (image n (w .now .network)) (replicate room 0) .said) (saidSaved 1 0 0 0))
-replyTo n w (restore b) = toRestore (restoreOn b (tablesOf n fresh) .said)
+abbrev pub stepping : Outcome → Stepped Tables
+stepping o = record { said = o .said; after = o .after }
 
-unfoldable pub repliesTo : ℕ → RunState → List Call → List Reply
-repliesTo n w [] = []
-repliesTo n w (c ∷ cs) = replyTo n w c ∷ repliesTo n (then n w c) cs
+-- the bytes that a save put at the front of the lent ones
+abbrev pub putOut : SaveOutcome → List ℕ
+putOut o = take (o .said .size) (o .out)
+
+abbrev pub writing : SaveOutcome → Returned (List ℕ)
+writing o = record { number = o .said .check .number; left = putOut o }
+
+abbrev pub refilling : Filled → Returned Tables
+refilling f = record { number = f .said .number; left = f .after }
+
+abbrev pub onTables : Calls Tables
+onTables = record {
+  stepped = λ m e t. stepping (stepOn m e t);
+  written = λ m out t. writing (saveOn m t out);
+  resumed = λ b t. refilling (restoreOn b t);
+}
+
+-- what `fresh` fills tables of n nodes with (`network`, freshOn)
+abbrev pub freshTables : ℕ → Tables
+freshTables n = tablesOf n fresh
+
+-- one call more; and all calls from fresh tables on
+abbrev pub then : RunState Tables → Call → RunState Tables
+then w c = act onTables w c
+
+abbrev pub after : ℕ → List Call → RunState Tables
+after n cs = perform onTables (startOfRun (freshTables n)) cs
+
+-- each restore is handed the bytes that an earlier accepted save of the list wrote, or bytes that it refuses
+abbrev pub Allowed : ℕ → List Call → Type 0
+Allowed n cs = AllFair onTables (startOfRun (freshTables n)) cs

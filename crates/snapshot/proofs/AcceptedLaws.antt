@@ -15,8 +15,6 @@ use Rattle.protocol.proofs.TestsLaws.{Choice, yes!, no!, choice, and-left, and-
 use Rattle.reading.specs.Examine.{Walkable, afterWalk, examined}
 use Rattle.reading.specs.Header.{fieldsOf, headerHolds, headerOf}
 use Rattle.reading.specs.Walk.{walk, endsAt}
-use Rattle.reading.specs.declared.Header.{Header}
-use Rattle.reading.specs.declared.Header.the-variants.{Good, Short, Wrong}
 use Rattle.reading.specs.declared.Walk.{Walk}
 use Rattle.reading.specs.declared.Walk.the-variants.{At, Over, Cut}
 use Rattle.reading.proofs.WalkLaws.{walk-accepted}
@@ -32,21 +30,16 @@ pub record HeaderGood (xs : List ℕ) : Type 0 where
   pub low : 1 ≤ field xs 16 5
   pub few : field xs 16 5 ≤ 16
   pub spare : field xs 21 11 ≡ 0
-  pub is : headerOf xs ≡ Good (fieldsOf xs)
+  pub is : headerOf xs ≡ fieldsOf xs
 
-pub data HeaderCase (xs : List ℕ) : Header → Type 0 where
-  isShort : HeaderCase xs Short
-  isWrong : HeaderCase xs Wrong
-  isGood : HeaderGood xs → HeaderCase xs (Good (fieldsOf xs))
-
-pub header-case : (xs : List ℕ) → HeaderCase xs (headerOf xs)
+pub header-good : (xs : List ℕ) → headerOf xs .number ≡ 0 → HeaderGood xs
 unfolding headerOf headerHolds
-header-case xs = go (choice (ltb (length xs) 4)) (choice (headerHolds 1 32 xs))
+header-good xs zero = go (choice (ltb (length xs) 4)) (choice (headerHolds 1 32 xs)) zero
   where
-    go : Choice (ltb (length xs) 4) → Choice (headerHolds 1 32 xs) → HeaderCase xs (headerOf xs)
-    go (yes! e) b = rw e isShort
-    go (no! e) (no! f) = rw (e, f) isWrong
-    go (no! e) (yes! f) =
+    go : Choice (ltb (length xs) 4) → Choice (headerHolds 1 32 xs) → headerOf xs .number ≡ 0 → HeaderGood xs
+    go (yes! e) b q = let y : _≡_ {A = ℕ} 10 0 = rw e at q in absurd (omega arith)
+    go (no! e) (no! f) q = let y : _≡_ {A = ℕ} 11 0 = rw (e, f) at q in absurd (omega arith)
+    go (no! e) (yes! f) q =
         let a = eqb (field xs 0 4) 1 in
         let b = eqb (field xs 4 12) 32 in
         let c = leb 1 (field xs 16 5) in
@@ -55,18 +48,15 @@ header-case xs = go (choice (ltb (length xs) 4)) (choice (headerHolds 1 32 xs))
         let abc = and-left (a && b && (c && d)) z f in
         let ab = and-left (a && b) (c && d) abc in
         let cd = and-right (a && b) (c && d) abc in
-        let q : headerOf xs ≡ Good (fieldsOf xs) = rw (e, f) in
-        rw q
-        (isGood
-        (record {
+        record {
           long = ltb-false (length xs) 4 e;
           version = eqb-true (field xs 0 4) 1 (and-left a b ab);
           header = eqb-true (field xs 4 12) 32 (and-right a b ab);
           low = leb-true 1 (field xs 16 5) (and-left c d cd);
           few = leb-true (field xs 16 5) 16 (and-right c d cd);
           spare = eqb-true (field xs 21 11) 0 (and-right (a && b && (c && d)) z f);
-          is = q;
-        }))
+          is = rw (e, f);
+        }
 
 -- ---- the checks behind it
 
@@ -111,7 +101,7 @@ pub record RestoreGood (xs : List ℕ) (t : Tables) : Type 0 where
 
 pub restore-good : (xs : List ℕ) (t : Tables) → restoreOn xs t .said .number ≡ 0 → RestoreGood xs t
 unfolding restoreOn restoreHeaded restoreOf restoreExamined
-restore-good xs t zero = go (headerOf xs) (header-case xs) refl zero
+restore-good xs t zero = go (choice (eqb (headerOf xs .number) 0)) zero
   where
     good : HeaderGood xs → Choice (sized (field xs 16 5) t) → Choice (eqb (examined 32 16 (field xs 16 5) (unpacked xs) .number) 0)
         → restoreOf (field xs 16 5) (unpacked xs) t .said .number ≡ 0 → RestoreGood xs t
@@ -126,8 +116,8 @@ restore-good xs t zero = go (headerOf xs) (header-case xs) refl zero
       after-is = rw (h .is, e, f);
     }
 
-    go : (h : Header) → HeaderCase xs h → headerOf xs ≡ h → restoreHeaded (unpacked xs) t h .said .number ≡ 0 → RestoreGood xs t
-    go h isShort e z = absurd (omega arith)
-    go h isWrong e z = absurd (omega arith)
-    go h (isGood g) e z =
-        good g (choice (sized (field xs 16 5) t)) (choice (eqb (examined 32 16 (field xs 16 5) (unpacked xs) .number) 0)) z
+    go : Choice (eqb (headerOf xs .number) 0) → restoreHeaded (unpacked xs) t (headerOf xs) .said .number ≡ 0 → RestoreGood xs t
+    go (no! e) z = absurd (eqb-false (headerOf xs .number) 0 e (rw e at z))
+    go (yes! e) z =
+        let h = header-good xs (eqb-true (headerOf xs .number) 0 e) in
+        good h (choice (sized (field xs 16 5) t)) (choice (eqb (examined 32 16 (field xs 16 5) (unpacked xs) .number) 0)) (rw (h .is) at z)

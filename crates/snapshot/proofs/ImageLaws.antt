@@ -6,7 +6,7 @@ use mathlib.Core.Bool.{Bool, true, false, cond}
 use mathlib.Core.Path.{_≡_, refl, ap, _∙_}
 use borrow.Author.Tests.{le-leb, lt-ltb, le-ltb}
 use lib.ListN.{length, drop}
-use Rattle.bits.specs.Bits.{field, number, unpacked}
+use Rattle.bits.specs.Bits.{field, unpacked}
 use Rattle.bits.proofs.Bytes.{length-unpacked}
 use Rattle.image.specs.Image.{imageOf, image}
 use Rattle.image.specs.Places.{fieldIn, channelFrom, channelPlace, imageEnd, recordsIn, tablesIn}
@@ -25,9 +25,8 @@ use Rattle.protocol.specs.Network.{Network, restrict}
 use Rattle.protocol.proofs.Soundness.{Fits, diagonal}
 use Rattle.protocol.proofs.SoundStep.{sound-fits}
 use Rattle.reading.specs.Examine.{afterWalk, examined}
-use Rattle.reading.specs.Header.{fieldsOf, headerHolds, headerOf}
+use Rattle.reading.specs.Header.{goodHeader, fieldsOf, headerHolds, headerOf}
 use Rattle.reading.specs.Walk.{walk, endsAt}
-use Rattle.reading.specs.declared.Header.the-variants.{Good}
 use Rattle.reading.specs.declared.Walk.the-variants.{At}
 use Rattle.reading.proofs.WalkLaws.{walk-goes}
 use Rattle.tables.specs.Load.{tablesOf}
@@ -45,7 +44,7 @@ module _ (n : ℕ) (low : 1 ≤ n) (few : n ≤ 16) (p : Network) (holds : sound
   unfolding image
   long = omega (arith, length-image 1 32 16 n (recordsOf n p), length-whole 1 32 16 n (recordsOf n p) (omega arith))
 
-  pub image-fields : fieldsOf (image n p) ≡ record { version = 1; length = 32; n = n }
+  pub image-fields : fieldsOf (image n p) ≡ goodHeader 1 32 n
   unfolding image field fieldIn
   image-fields =
       rw (
@@ -66,7 +65,7 @@ module _ (n : ℕ) (low : 1 ≤ n) (few : n ≤ 16) (p : Network) (holds : sound
         le-leb n 16 few,
       )
 
-  pub image-header : headerOf (image n p) ≡ Good (record { version = 1; length = 32; n = n })
+  pub image-header : headerOf (image n p) ≡ goodHeader 1 32 n
   unfolding headerOf
   image-header = rw (le-ltb (length (image n p)) 4 long, header-holds, image-fields)
 

@@ -9,5 +9,6 @@ pub mod RefusedLaws
 pub mod NodePlaces
 pub mod SaveLaws
 pub mod LookLaws
+pub mod LookSaved
 pub mod SaveRestored
 pub mod RestoreLaws

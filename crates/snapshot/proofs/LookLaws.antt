@@ -3,12 +3,11 @@
 use Prim.Native.Nat.{ℕ, suc, _+_, _-_, _*_, _^_, _≤_}
 use native.Mathlib.Omega.{arith}
 use mathlib.Core.Bool.{true, false, _||_}
-use mathlib.Core.List.{List, [], _∷_}
+use mathlib.Core.List.{List}
 use mathlib.Core.Path.{_≡_, refl, sym, ap, _∙_}
 use borrow.Author.Tests.{eq-eqb, ne-eqb, leb-true, ltb-false, le-ltb, lt-ltb, le-leb}
 use lib.Dec.{leb, ltb}
 use lib.ListN.{length}
-use types.Run.{miss}
 use Rattle.bits.specs.Bits.{unpacked}
 use Rattle.bits.proofs.Bytes.{length-unpacked}
 use Rattle.height.proofs.OrderLaws.{clash}
@@ -24,16 +23,14 @@ use Rattle.reader.specs.Fields.{within}
 use Rattle.reader.specs.Record.{NodeRow, nodeRow, recordIn, nodeInside, nodeOn, saidNode as saidRead}
 use Rattle.reader.specs.declared.NodeTaken.{NodeTaken}
 use Rattle.reading.specs.Examine.{Walkable, saidExamined, examined}
-use Rattle.reading.specs.Header.{headerOf}
+use Rattle.reading.specs.Header.{SaidHeader, saidHeader, headerOf}
 use Rattle.reading.specs.declared.Examined.{Examined}
 use Rattle.reading.specs.declared.Examined.the-variants.{Sound, Fault, BadEnd}
 use Rattle.reading.specs.declared.Fields.{Fields}
 use Rattle.reading.specs.declared.Header.{Header}
-use Rattle.reading.specs.declared.Header.the-variants.{Good, Short, Wrong}
+use Rattle.reading.specs.declared.Header.the-variants.{Good}
 use Rattle.tables.proofs.RowsLaws.{product-le}
-use Rattle.snapshot.specs.ReadNode.{Looked, looked, refusedNode, nodeAt, nodePlaced, nodeExamined, nodeHeaded, readNodeOn}
-use Rattle.snapshot.specs.Restore.{saidHeader}
-use Rattle.snapshot.proofs.RestoreLaws.{Refused}
+use Rattle.snapshot.specs.ReadNode.{Looked, looked, refusedNode, nodeAt, nodePlaced, nodeExamined, nodeSized, nodeHeaded, readNodeOn}
 
 -- the records before one of 16 nodes take few bits
 pub before-small : (n k : ℕ) → n ≤ 16 → 1 ≤ k → k ≤ n → (k - 1) * (64 + 96 * n) ≤ 24000
@@ -52,64 +49,59 @@ node-is n k e = go (choice (ltb k 1)) (choice (ltb n k))
 
 -- ---- by what the header and the checks answer
 
-pub node-refused : (xs : List ℕ) (k place : ℕ) (row : List ℕ) (h : Header) → h ≡ headerOf xs → Refused h
-    → looked (refusedNode (saidHeader h)) row ≡ readNodeOn xs k place row
+pub node-refused : (xs : List ℕ) (k place : ℕ) (row : List ℕ) {s : SaidHeader} → s ≡ headerOf xs → (s .number ≡ 0 → ⊥)
+    → looked (refusedNode (checked (s .number) 0 0)) row ≡ readNodeOn xs k place row
 unfolding readNodeOn nodeHeaded
-node-refused xs k place row h e s = go h s ∙ ap (nodeHeaded (unpacked xs) k place row) e
-  where
-    go : (h : Header) → Refused h → looked (refusedNode (saidHeader h)) row ≡ nodeHeaded (unpacked xs) k place row h
-    go (Good f) s = absurd (miss (1 ∷ 2 ∷ []) 0 tt s)
-    go Short s = refl
-    go Wrong s = refl
+node-refused xs k place row {s} e d = rw (← e, ne-eqb (s .number) 0 d)
 
-pub node-headed : (xs : List ℕ) (k place : ℕ) (row : List ℕ) {h : Header} → h ≡ headerOf xs → {f : Fields} → h ≡ Good f
-    → nodeHeaded (unpacked xs) k place row (Good f) ≡ readNodeOn xs k place row
-unfolding readNodeOn
-node-headed xs k place row e q = ap (nodeHeaded (unpacked xs) k place row) (sym q ∙ e)
+pub node-headed : (xs : List ℕ) (k place : ℕ) (row : List ℕ) {h : Header} → saidHeader h ≡ headerOf xs → {f : Fields} → h ≡ Good f
+    → nodeSized (f .length) (f .n) (unpacked xs) k place row ≡ readNodeOn xs k place row
+unfolding readNodeOn nodeHeaded
+node-headed xs k place row e q = ap (nodeHeaded (unpacked xs) k place row) (ap saidHeader (sym q) ∙ e)
 
-module _ (f : Fields) (l : List ℕ) (k place : ℕ) (row : List ℕ) where
-  pub node-sizes : (length row ≡ f .n * 7 → ⊥) → looked (refusedNode (checked 1 0 0)) row ≡ nodeHeaded l k place row (Good f)
-  unfolding nodeHeaded
-  node-sizes d = rw (ne-eqb (length row) (f .n * 7) d)
+module _ (h n : ℕ) (l : List ℕ) (k place : ℕ) (row : List ℕ) where
+  pub node-sizes : (length row ≡ n * 7 → ⊥) → looked (refusedNode (checked 1 0 0)) row ≡ nodeSized h n l k place row
+  unfolding nodeSized
+  node-sizes d = rw (ne-eqb (length row) (n * 7) d)
 
-  module _ (wide : length row ≡ f .n * 7) {r : Examined} (answers : saidExamined r ≡ examined 32 16 (f .n) l) where
-    by : {x : Examined} → r ≡ x → nodeExamined f l k place row (saidExamined x) ≡ nodeHeaded l k place row (Good f)
-    unfolding nodeHeaded
-    by h = rw (eq-eqb (length row) (f .n * 7) wide, ← answers, h)
+  module _ (wide : length row ≡ n * 7) {r : Examined} (answers : saidExamined r ≡ examined 32 16 n l) where
+    by : {x : Examined} → r ≡ x → nodeExamined h n l k place row (saidExamined x) ≡ nodeSized h n l k place row
+    unfolding nodeSized
+    by e = rw (eq-eqb (length row) (n * 7) wide, ← answers, e)
 
-    pub node-fault : {u v : ℕ} → r ≡ Fault u v → looked (refusedNode (checked 2 u v)) row ≡ nodeHeaded l k place row (Good f)
+    pub node-fault : {u v : ℕ} → r ≡ Fault u v → looked (refusedNode (checked 2 u v)) row ≡ nodeSized h n l k place row
     unfolding nodeExamined
-    node-fault h = by h
+    node-fault e = by e
 
-    pub node-end : r ≡ BadEnd → looked (refusedNode (checked 12 0 0)) row ≡ nodeHeaded l k place row (Good f)
+    pub node-end : r ≡ BadEnd → looked (refusedNode (checked 12 0 0)) row ≡ nodeSized h n l k place row
     unfolding nodeExamined
-    node-end h = by h
+    node-end e = by e
 
-    pub node-sound : r ≡ Sound → nodePlaced f l k place row ≡ nodeHeaded l k place row (Good f)
+    pub node-sound : r ≡ Sound → nodePlaced h n l k place row ≡ nodeSized h n l k place row
     unfolding nodeExamined
-    node-sound h = by h
+    node-sound e = by e
 
   -- ---- then 3 and 13
 
-  pub not-node : (ltb k 1 || ltb (f .n) k) ≡ true → looked (refusedNode (checked 3 0 0)) row ≡ nodePlaced f l k place row
+  pub not-node : (ltb k 1 || ltb n k) ≡ true → looked (refusedNode (checked 3 0 0)) row ≡ nodePlaced h n l k place row
   unfolding nodePlaced
-  not-node e = go (choice (isNode (f .n) k))
+  not-node e = go (choice (isNode n k))
     where
-      go : Choice (isNode (f .n) k) → looked (refusedNode (checked 3 0 0)) row ≡ nodePlaced f l k place row
+      go : Choice (isNode n k) → looked (refusedNode (checked 3 0 0)) row ≡ nodePlaced h n l k place row
       go (no! q) = rw q
       go (yes! q) =
-          let a = leb-true 1 k (and-left (leb 1 k) (leb k (f .n)) q) in
-          let b = leb-true k (f .n) (and-right (leb 1 k) (leb k (f .n)) q) in
-          clash (rw (le-ltb k 1 a, le-ltb (f .n) k b) at e) refl
+          let a = leb-true 1 k (and-left (leb 1 k) (leb k n) q) in
+          let b = leb-true k n (and-right (leb 1 k) (leb k n) q) in
+          clash (rw (le-ltb k 1 a, le-ltb n k b) at e) refl
 
-  module _ (node : Node (f .n) k) where
-    pub not-place : (place ≡ nodePlace (f .length) 16 (f .n) k → ⊥) → looked (refusedNode (checked 13 0 0)) row ≡ nodePlaced f l k place row
+  module _ (node : Node n k) where
+    pub not-place : (place ≡ nodePlace h 16 n k → ⊥) → looked (refusedNode (checked 13 0 0)) row ≡ nodePlaced h n l k place row
     unfolding nodePlaced
-    not-place d = rw (node-passes (f .n) k node, ne-eqb place (nodePlace (f .length) 16 (f .n) k) d)
+    not-place d = rw (node-passes n k node, ne-eqb place (nodePlace h 16 n k) d)
 
-    pub at-place : (at : ℕ) → at ≡ nodePlace (f .length) 16 (f .n) k → place ≡ at → nodeAt (f .n) l at ≡ nodePlaced f l k place row
+    pub at-place : (at : ℕ) → at ≡ nodePlace h 16 n k → place ≡ at → nodeAt n l at ≡ nodePlaced h n l k place row
     unfolding nodePlaced
-    at-place at e q = rw (node-passes (f .n) k node, eq-eqb place (nodePlace (f .length) 16 (f .n) k) (q ∙ e), q)
+    at-place at e q = rw (node-passes n k node, eq-eqb place (nodePlace h 16 n k) (q ∙ e), q)
 
 -- the record of node k stands inside an image that was walked
 pub record-inside : (xs : List ℕ) (n k at : ℕ) → Walkable 32 16 n (unpacked xs) → Node n k → at ≡ nodePlace 32 16 n k → Inside xs at (nodeWidth 16 n)

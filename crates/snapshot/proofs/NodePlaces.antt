@@ -17,11 +17,9 @@ use Rattle.protocol.specs.Component.{Node}
 use Rattle.protocol.specs.Network.{isNode}
 use Rattle.protocol.proofs.TestsLaws.{Choice, yes!, no!, choice, and-left, and-right, node-passes}
 use Rattle.reading.specs.Examine.{examined}
-use Rattle.reading.specs.Header.{fieldsOf, headerOf}
-use Rattle.reading.specs.declared.Header.{Header}
-use Rattle.reading.specs.declared.Header.the-variants.{Good}
-use Rattle.snapshot.specs.ReadNode.{looked, refusedNode, nodeAt, nodePlaced, nodeExamined, nodeHeaded, readNodeOn}
-use Rattle.snapshot.proofs.AcceptedLaws.{HeaderGood, HeaderCase, isShort, isWrong, isGood, header-case}
+use Rattle.reading.specs.Header.{headerOf}
+use Rattle.snapshot.specs.ReadNode.{looked, refusedNode, nodeAt, nodePlaced, nodeExamined, nodeSized, nodeHeaded, readNodeOn}
+use Rattle.snapshot.proofs.AcceptedLaws.{HeaderGood, header-good}
 
 -- ---- where node k of n starts
 
@@ -52,9 +50,9 @@ pub record Readable (xs row : List ℕ) : Type 0 where
 
 module _ (xs row : List ℕ) (ok : Readable xs row) (k : ℕ) where
   -- then 3 and 13 decide
-  pub placed : (place : ℕ) → readNodeOn xs k place row ≡ nodePlaced (fieldsOf xs) (unpacked xs) k place row
-  unfolding readNodeOn nodeHeaded nodeExamined
-  placed place = rw (ok .header .is, eq-eqb (length row) (field xs 16 5 * 7) (ok .wide), ok .contents)
+  pub placed : (place : ℕ) → readNodeOn xs k place row ≡ nodePlaced 32 (field xs 16 5) (unpacked xs) k place row
+  unfolding readNodeOn nodeHeaded nodeSized nodeExamined
+  placed place = rw (ok .header .is, eq-eqb (length row) (field xs 16 5 * 7) (ok .wide), ok .contents, ok .header .header)
 
   module _ (node : Node (field xs 16 5) k) where
     -- accepted where the record starts: header length + (k − 1)(64 + 96 n)
@@ -62,13 +60,13 @@ module _ (xs row : List ℕ) (ok : Readable xs row) (k : ℕ) where
     unfolding nodePlaced
     own-place =
         placed (nodePlace 32 16 (field xs 16 5) k)
-        ∙ rw (node-passes (field xs 16 5) k node, ok .header .header, eq-eqb (nodePlace 32 16 (field xs 16 5) k) (nodePlace 32 16 (field xs 16 5) k) refl)
+        ∙ rw (node-passes (field xs 16 5) k node, eq-eqb (nodePlace 32 16 (field xs 16 5) k) (nodePlace 32 16 (field xs 16 5) k) refl)
 
     -- refused with 13 everywhere else
     pub no-place : (place : ℕ) → (place ≡ nodePlace 32 16 (field xs 16 5) k → ⊥) → readNodeOn xs k place row ≡ looked (refusedNode (checked 13 0 0)) row
     unfolding nodePlaced
     no-place place d =
-        placed place ∙ rw (node-passes (field xs 16 5) k node, ok .header .header, ne-eqb place (nodePlace 32 16 (field xs 16 5) k) d)
+        placed place ∙ rw (node-passes (field xs 16 5) k node, ne-eqb place (nodePlace 32 16 (field xs 16 5) k) d)
 
     -- the place at which another node's record starts
     pub other-place : (j : ℕ) → Node (field xs 16 5) j → (j ≡ k → ⊥)
@@ -83,8 +81,8 @@ pub record NodeGood (xs : List ℕ) (k place : ℕ) (row : List ℕ) : Type 0 wh
   pub place-is : place ≡ nodePlace 32 16 (field xs 16 5) k
 
 pub node-good : (xs : List ℕ) (k place : ℕ) (row : List ℕ) → readNodeOn xs k place row .said .check .number ≡ 0 → NodeGood xs k place row
-unfolding readNodeOn nodeHeaded nodeExamined nodePlaced
-node-good xs k place row zero = go (headerOf xs) (header-case xs) refl zero
+unfolding readNodeOn nodeHeaded nodeSized nodeExamined nodePlaced
+node-good xs k place row zero = go (choice (eqb (headerOf xs .number) 0)) zero
   where
     n : ℕ
     n = field xs 16 5
@@ -92,32 +90,33 @@ node-good xs k place row zero = go (headerOf xs) (header-case xs) refl zero
     l : List ℕ
     l = unpacked xs
 
-    at : HeaderGood xs → length row ≡ n * 7 → examined 32 16 n l .number ≡ 0 → Choice (isNode n k) → Choice (eqb place (nodePlace (field xs 4 12) 16 n k))
-        → nodePlaced (fieldsOf xs) l k place row .said .check .number ≡ 0 → NodeGood xs k place row
+    at : HeaderGood xs → length row ≡ n * 7 → examined 32 16 n l .number ≡ 0 → Choice (isNode n k) → Choice (eqb place (nodePlace 32 16 n k))
+        → nodePlaced 32 n l k place row .said .check .number ≡ 0 → NodeGood xs k place row
     at h w c (no! e) q z = let y : _≡_ {A = ℕ} 3 0 = rw e at z in absurd (omega arith)
     at h w c (yes! e) (no! q) z = let y : _≡_ {A = ℕ} 13 0 = rw (e, q) at z in absurd (omega arith)
     at h w c (yes! e) (yes! q) z = record {
       readable = record { header = h; wide = w; contents = c };
       node = record { low = leb-true 1 k (and-left (leb 1 k) (leb k n) e); high = leb-true k n (and-right (leb 1 k) (leb k n) e) };
-      place-is = rw (h .header) at (eqb-true place (nodePlace (field xs 4 12) 16 n k) q);
+      place-is = eqb-true place (nodePlace 32 16 n k) q;
     }
 
     exam : HeaderGood xs → length row ≡ n * 7 → Choice (eqb (examined 32 16 n l .number) 0)
-        → nodeExamined (fieldsOf xs) l k place row (examined 32 16 n l) .said .check .number ≡ 0 → NodeGood xs k place row
+        → nodeExamined 32 n l k place row (examined 32 16 n l) .said .check .number ≡ 0 → NodeGood xs k place row
     exam h w (no! e) z =
         let y : examined 32 16 n l .number ≡ 0 = rw e at z in
         absurd (eqb-false (examined 32 16 n l .number) 0 e y)
     exam h w (yes! e) z =
-        at h w (eqb-true (examined 32 16 n l .number) 0 e) (choice (isNode n k)) (choice (eqb place (nodePlace (field xs 4 12) 16 n k))) (rw e at z)
+        at h w (eqb-true (examined 32 16 n l .number) 0 e) (choice (isNode n k)) (choice (eqb place (nodePlace 32 16 n k))) (rw e at z)
 
-    wide : HeaderGood xs → Choice (eqb (length row) (n * 7)) → nodeHeaded l k place row (Good (fieldsOf xs)) .said .check .number ≡ 0 → NodeGood xs k place row
+    wide : HeaderGood xs → Choice (eqb (length row) (n * 7)) → nodeSized 32 n l k place row .said .check .number ≡ 0 → NodeGood xs k place row
     wide h (no! e) z = let y : _≡_ {A = ℕ} 1 0 = rw e at z in absurd (omega arith)
     wide h (yes! e) z = exam h (eqb-true (length row) (n * 7) e) (choice (eqb (examined 32 16 n l .number) 0)) (rw e at z)
 
-    go : (h : Header) → HeaderCase xs h → headerOf xs ≡ h → nodeHeaded l k place row h .said .check .number ≡ 0 → NodeGood xs k place row
-    go h isShort e z = absurd (omega arith)
-    go h isWrong e z = absurd (omega arith)
-    go h (isGood g) e z = wide g (choice (eqb (length row) (n * 7))) z
+    go : Choice (eqb (headerOf xs .number) 0) → nodeHeaded l k place row (headerOf xs) .said .check .number ≡ 0 → NodeGood xs k place row
+    go (no! e) z = absurd (eqb-false (headerOf xs .number) 0 e (rw e at z))
+    go (yes! e) z =
+        let h = header-good xs (eqb-true (headerOf xs .number) 0 e) in
+        wide h (choice (eqb (length row) (n * 7))) (rw (h .is, h .header) at z)
 
 -- a place is accepted for at most one node of an image
 pub at-most-one : (xs : List ℕ) (j k place : ℕ) (row rows : List ℕ) → readNodeOn xs j place row .said .check .number ≡ 0

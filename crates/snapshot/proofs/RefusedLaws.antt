@@ -3,7 +3,7 @@
 use Prim.Native.Nat.{ℕ, _*_}
 use mathlib.Core.Bool.{cond}
 use mathlib.Core.List.{List}
-use mathlib.Core.Path.{_≡_, refl}
+use mathlib.Core.Path.{_≡_}
 use borrow.Author.Tests.{eqb-true}
 use lib.Dec.{eqb, leb}
 use lib.ListN.{length}
@@ -15,13 +15,10 @@ use Rattle.network.specs.Fresh.{filled}
 use Rattle.protocol.specs.Network.{isNode}
 use Rattle.protocol.proofs.TestsLaws.{Choice, yes!, no!, choice}
 use Rattle.reading.specs.Examine.{examined}
-use Rattle.reading.specs.Header.{headerOf}
-use Rattle.reading.specs.declared.Fields.{Fields}
-use Rattle.reading.specs.declared.Header.{Header}
-use Rattle.reading.specs.declared.Header.the-variants.{Good, Short, Wrong}
+use Rattle.reading.specs.Header.{SaidHeader, headerOf}
 use Rattle.tables.specs.Load.{load}
 use Rattle.tables.specs.Tables.{Tables, sized}
-use Rattle.snapshot.specs.ReadNode.{nodeAt, nodePlaced, nodeExamined, nodeHeaded, readNodeOn}
+use Rattle.snapshot.specs.ReadNode.{nodeAt, nodePlaced, nodeExamined, nodeSized, nodeHeaded, readNodeOn}
 use Rattle.snapshot.specs.Restore.{restoreExamined, restoreOf, restoreHeaded, restoreOn}
 use Rattle.snapshot.specs.Save.{put, saveChecked, saveOn}
 
@@ -57,11 +54,13 @@ module _ (t : Tables) (l : List ℕ) where
       go (yes! e) (no! f) z = rw (e, f)
       go (yes! e) (yes! f) z = absurd (z (rw (e, f) (eqb-true (examined 32 16 m l .number) 0 f)))
 
-  kept-headed : (h : Header) → (restoreHeaded l t h .said .number ≡ 0 → ⊥) → restoreHeaded l t h .after ≡ t
+  kept-headed : (h : SaidHeader) → (restoreHeaded l t h .said .number ≡ 0 → ⊥) → restoreHeaded l t h .after ≡ t
   unfolding restoreHeaded
-  kept-headed Short z = refl
-  kept-headed Wrong z = refl
-  kept-headed (Good f) z = kept-of (f .n) z
+  kept-headed h z = go (choice (eqb (h .number) 0)) z
+    where
+      go : Choice (eqb (h .number) 0) → (restoreHeaded l t h .said .number ≡ 0 → ⊥) → restoreHeaded l t h .after ≡ t
+      go (no! e) z = rw e
+      go (yes! e) z = rw e (kept-of (h .n) (λ q. z (rw e q)))
 
 pub restore-kept : (xs : List ℕ) (t : Tables) → (restoreOn xs t .said .number ≡ 0 → ⊥) → restoreOn xs t .after ≡ t
 unfolding restoreOn
@@ -69,35 +68,37 @@ restore-kept xs t z = kept-headed t (unpacked xs) (headerOf xs) z
 
 -- ---- a look at one node
 
-module _ (f : Fields) (l : List ℕ) (k place : ℕ) (row : List ℕ) where
-  placed-kept : (nodePlaced f l k place row .said .check .number ≡ 0 → ⊥) → nodePlaced f l k place row .row ≡ row
+module _ (h n : ℕ) (l : List ℕ) (k place : ℕ) (row : List ℕ) where
+  placed-kept : (nodePlaced h n l k place row .said .check .number ≡ 0 → ⊥) → nodePlaced h n l k place row .row ≡ row
   unfolding nodePlaced nodeAt
-  placed-kept z = go (choice (isNode (f .n) k)) (choice (eqb place (nodePlace (f .length) 16 (f .n) k))) z
+  placed-kept z = go (choice (isNode n k)) (choice (eqb place (nodePlace h 16 n k))) z
     where
-      go : Choice (isNode (f .n) k) → Choice (eqb place (nodePlace (f .length) 16 (f .n) k))
-          → (nodePlaced f l k place row .said .check .number ≡ 0 → ⊥) → nodePlaced f l k place row .row ≡ row
+      go : Choice (isNode n k) → Choice (eqb place (nodePlace h 16 n k))
+          → (nodePlaced h n l k place row .said .check .number ≡ 0 → ⊥) → nodePlaced h n l k place row .row ≡ row
       go (no! e) q z = rw e
       go (yes! e) (no! q) z = rw (e, q)
       go (yes! e) (yes! q) z = absurd (z (rw (e, q)))
 
-  examined-kept : (c : SaidCheck) → (nodeExamined f l k place row c .said .check .number ≡ 0 → ⊥) → nodeExamined f l k place row c .row ≡ row
+  examined-kept : (c : SaidCheck) → (nodeExamined h n l k place row c .said .check .number ≡ 0 → ⊥) → nodeExamined h n l k place row c .row ≡ row
   unfolding nodeExamined
   examined-kept c z = go (choice (eqb (c .number) 0)) z
     where
-      go : Choice (eqb (c .number) 0) → (nodeExamined f l k place row c .said .check .number ≡ 0 → ⊥) → nodeExamined f l k place row c .row ≡ row
+      go : Choice (eqb (c .number) 0) → (nodeExamined h n l k place row c .said .check .number ≡ 0 → ⊥) → nodeExamined h n l k place row c .row ≡ row
       go (no! e) z = rw e
       go (yes! e) z = rw e (placed-kept (λ q. z (rw e q)))
 
+  sized-kept : (nodeSized h n l k place row .said .check .number ≡ 0 → ⊥) → nodeSized h n l k place row .row ≡ row
+  unfolding nodeSized
+  sized-kept z = go (choice (eqb (length row) (n * 7))) z
+    where
+      go : Choice (eqb (length row) (n * 7)) → (nodeSized h n l k place row .said .check .number ≡ 0 → ⊥) → nodeSized h n l k place row .row ≡ row
+      go (no! e) z = rw e
+      go (yes! e) z = rw e (examined-kept (examined 32 16 n l) (λ q. z (rw e q)))
+
 pub node-kept : (xs : List ℕ) (k place : ℕ) (row : List ℕ) → (readNodeOn xs k place row .said .check .number ≡ 0 → ⊥) → readNodeOn xs k place row .row ≡ row
 unfolding readNodeOn nodeHeaded
-node-kept xs k place row z = go (headerOf xs) z
+node-kept xs k place row z = go (choice (eqb (headerOf xs .number) 0)) z
   where
-    wide : (f : Fields) → Choice (eqb (length row) (f .n * 7)) → (nodeHeaded (unpacked xs) k place row (Good f) .said .check .number ≡ 0 → ⊥)
-        → nodeHeaded (unpacked xs) k place row (Good f) .row ≡ row
-    wide f (no! e) z = rw e
-    wide f (yes! e) z = rw e (examined-kept f (unpacked xs) k place row (examined 32 16 (f .n) (unpacked xs)) (λ q. z (rw e q)))
-
-    go : (h : Header) → (nodeHeaded (unpacked xs) k place row h .said .check .number ≡ 0 → ⊥) → nodeHeaded (unpacked xs) k place row h .row ≡ row
-    go Short z = refl
-    go Wrong z = refl
-    go (Good f) z = wide f (choice (eqb (length row) (f .n * 7))) z
+    go : Choice (eqb (headerOf xs .number) 0) → (readNodeOn xs k place row .said .check .number ≡ 0 → ⊥) → readNodeOn xs k place row .row ≡ row
+    go (no! e) z = rw e
+    go (yes! e) z = rw e (sized-kept (headerOf xs .length) (headerOf xs .n) (unpacked xs) k place row (λ q. z (rw e q)))

@@ -3,16 +3,14 @@
 use Prim.Native.Nat.{ℕ}
 use mathlib.Core.Bool.{cond}
 use mathlib.Core.List.{List}
-use mathlib.Core.Path.{_≡_, refl}
+use mathlib.Core.Path.{_≡_}
 use lib.Dec.{eqb}
 use Rattle.bits.specs.Bits.{unpacked}
 use Rattle.network.specs.Check.{checked}
 use Rattle.network.specs.Fresh.{filled}
 use Rattle.protocol.proofs.TestsLaws.{Choice, yes!, no!, choice}
 use Rattle.reading.specs.Examine.{examined}
-use Rattle.reading.specs.Header.{headerOf}
-use Rattle.reading.specs.declared.Header.{Header}
-use Rattle.reading.specs.declared.Header.the-variants.{Good, Short, Wrong}
+use Rattle.reading.specs.Header.{SaidHeader, headerOf}
 use Rattle.tables.specs.Tables.{Tables, Sized, sized}
 use Rattle.snapshot.specs.Restore.{restoreExamined, restoreOf, restoreHeaded, restoreOn}
 
@@ -34,11 +32,13 @@ module _ (n : ℕ) (t u : Tables) (a : Sized n t) (b : Sized n u) (l : List ℕ)
       go (yes! e) (yes! f) = rw (e, f)
       go (yes! e) (no! f) = rw (e, f)
 
-  said-headed : (h : Header) → restoreHeaded l t h .said ≡ restoreHeaded l u h .said
+  said-headed : (h : SaidHeader) → restoreHeaded l t h .said ≡ restoreHeaded l u h .said
   unfolding restoreHeaded
-  said-headed Short = refl
-  said-headed Wrong = refl
-  said-headed (Good f) = said-of (f .n)
+  said-headed h = go (choice (eqb (h .number) 0))
+    where
+      go : Choice (eqb (h .number) 0) → restoreHeaded l t h .said ≡ restoreHeaded l u h .said
+      go (no! e) = rw e
+      go (yes! e) = rw e (said-of (h .n))
 
 pub restore-said : (n : ℕ) (t u : Tables) → Sized n t → Sized n u → (xs : List ℕ) → restoreOn xs t .said ≡ restoreOn xs u .said
 unfolding restoreOn

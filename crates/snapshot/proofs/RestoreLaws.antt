@@ -4,15 +4,16 @@ use Prim.Native.Nat.{ℕ, _≤_}
 use native.Mathlib.Omega.{arith}
 use mathlib.Core.Bool.{true, false}
 use mathlib.Core.List.{List, [], _∷_}
-use mathlib.Core.Path.{_≡_, refl, sym, ap, _∙_}
+use mathlib.Core.Path.{_≡_, sym, ap, _∙_}
+use borrow.Author.Tests.{ne-eqb}
 use denote.Enum.Declared.{tagOf}
 use types.Run.{OneOf, miss}
-use Rattle.bits.specs.Bits.{unpacked}
+use Rattle.bits.specs.Bits.{field, unpacked}
 use Rattle.image.specs.Places.{tablesIn}
 use Rattle.network.specs.Check.{SaidCheck, checked}
 use Rattle.network.specs.Fresh.{filled}
 use Rattle.reading.specs.Examine.{Walkable, saidExamined, examined}
-use Rattle.reading.specs.Header.{fieldsOf, headerOf}
+use Rattle.reading.specs.Header.{SaidHeader, saidHeader, headerOf}
 use Rattle.reading.specs.declared.Examined.{Examined}
 use Rattle.reading.specs.declared.Examined.the-variants.{Sound, Fault, BadEnd}
 use Rattle.reading.specs.declared.Fields.{Fields}
@@ -20,42 +21,38 @@ use Rattle.reading.specs.declared.Header.{Header}
 use Rattle.reading.specs.declared.Header.the-variants.{Good, Short, Wrong}
 use Rattle.reading.proofs.Header as declared
 use Rattle.tables.specs.Tables.{Tables, sized}
-use Rattle.snapshot.specs.Restore.{saidHeader, restoreExamined, restoreOf, restoreHeaded, restoreOn}
-use Rattle.snapshot.proofs.AcceptedLaws.{HeaderCase, isShort, isWrong, isGood, header-case, examined-good}
+use Rattle.snapshot.specs.Restore.{restoreExamined, restoreOf, restoreHeaded, restoreOn}
+use Rattle.snapshot.proofs.AcceptedLaws.{header-good, examined-good}
 
 -- ---- the header
 
--- one that `let .. else` turns away
-abbrev pub Refused : Header → Type 0
-Refused h = OneOf (1 ∷ 2 ∷ []) (tagOf declared.the-type h)
+-- one that `let .. else` turns away is not good
+pub refused : (h : Header) → OneOf (1 ∷ 2 ∷ []) (tagOf declared.the-type h) → saidHeader h .number ≡ 0 → ⊥
+refused (Good f) k z = miss (1 ∷ 2 ∷ []) 0 tt k
+refused Short k z = omega arith
+refused Wrong k z = omega arith
 
-pub headed-refused : (xs : List ℕ) (t : Tables) (h : Header) → h ≡ headerOf xs → Refused h → filled (saidHeader h) t ≡ restoreOn xs t
+pub headed-refused : (xs : List ℕ) (t : Tables) {s : SaidHeader} → s ≡ headerOf xs → (s .number ≡ 0 → ⊥)
+    → filled (checked (s .number) 0 0) t ≡ restoreOn xs t
 unfolding restoreOn restoreHeaded
-headed-refused xs t h e k = go h k ∙ ap (restoreHeaded (unpacked xs) t) e
-  where
-    go : (h : Header) → Refused h → filled (saidHeader h) t ≡ restoreHeaded (unpacked xs) t h
-    go (Good f) k = absurd (miss (1 ∷ 2 ∷ []) 0 tt k)
-    go Short k = refl
-    go Wrong k = refl
+headed-refused xs t {s} e d = rw (← e, ne-eqb (s .number) 0 d)
 
-pub headed-good : (xs : List ℕ) (t : Tables) {h : Header} → h ≡ headerOf xs → {f : Fields} → h ≡ Good f → restoreOf (f .n) (unpacked xs) t ≡ restoreOn xs t
+pub headed-good : (xs : List ℕ) (t : Tables) {h : Header} → saidHeader h ≡ headerOf xs → {f : Fields} → h ≡ Good f
+    → restoreOf (f .n) (unpacked xs) t ≡ restoreOn xs t
 unfolding restoreOn restoreHeaded
-headed-good xs t e q = ap (restoreHeaded (unpacked xs) t) (sym q ∙ e)
+headed-good xs t e q = ap (restoreHeaded (unpacked xs) t) (ap saidHeader (sym q) ∙ e)
 
 pub record GoodFields (f : Fields) : Type 0 where
   pub length-is : f .length ≡ 32
   pub low : 1 ≤ f .n
   pub few : f .n ≤ 16
 
-pub good-fields : (xs : List ℕ) {h : Header} → h ≡ headerOf xs → {f : Fields} → h ≡ Good f → GoodFields f
-good-fields xs {h} e {f} q = go (headerOf xs) (header-case xs) (sym q ∙ e)
-  where
-    go : (x : Header) → HeaderCase xs x → Good f ≡ x → GoodFields f
-    go x isShort z = let y : _≡_ {A = ℕ} 0 1 = cc in absurd (omega arith)
-    go x isWrong z = let y : _≡_ {A = ℕ} 0 1 = cc in absurd (omega arith)
-    go x (isGood g) z =
-        let same : f ≡ fieldsOf xs = cc in
-        rw same (record { length-is = g .header; low = g .low; few = g .few })
+pub good-fields : (xs : List ℕ) {h : Header} → saidHeader h ≡ headerOf xs → {f : Fields} → h ≡ Good f → GoodFields f
+good-fields xs e {f} q =
+    let says : saidHeader (Good f) ≡ headerOf xs = ap saidHeader (sym q) ∙ e in
+    let g = header-good xs (sym (ap (λ (s : SaidHeader). s .number) says)) in
+    let nodes : f .n ≡ field xs 16 5 = ap (λ (s : SaidHeader). s .n) (says ∙ g .is) in
+    record { length-is = ap (λ (s : SaidHeader). s .length) (says ∙ g .is) ∙ g .header; low = omega arith; few = omega arith }
 
 -- ---- behind it
 

@@ -11,10 +11,7 @@ use Rattle.image.specs.Places.{fieldIn, nodePlace}
 use Rattle.network.specs.Check.{SaidCheck, checked}
 use Rattle.protocol.specs.Network.{isNode}
 use Rattle.reading.specs.Examine.{examined}
-use Rattle.reading.specs.Header.{headerOf}
-use Rattle.reading.specs.declared.Fields.{Fields}
-use Rattle.reading.specs.declared.Header.{Header}
-use Rattle.reading.specs.declared.Header.the-variants.{Good, Short, Wrong}
+use Rattle.reading.specs.Header.{SaidHeader, headerOf}
 use Rattle.snapshot.specs.declared.NodeRead.{NodeRead}
 use Rattle.snapshot.specs.declared.NodeRead.the-variants.{Found, TooShort, BadHeader, Sizes, Fault, BadEnd, NotNode, NotPlace}
 
@@ -54,22 +51,25 @@ nodeAt n l at =
     (record { check = checked 0 0 0; clock = fieldIn l at 32; neighbors = fieldIn l (at + 32) 16; forming = fieldIn l (at + 48) 16 })
     (heightsFrom 16 n l at)
 
--- 3, 13, else the record
-unfoldable pub nodePlaced : Fields → List ℕ → ℕ → ℕ → List ℕ → Looked
-nodePlaced f l k place row =
-    cond (isNode (f .n) k)
-    (cond (eqb place (nodePlace (f .length) 16 (f .n) k)) (nodeAt (f .n) l place) (looked (refusedNode (checked 13 0 0)) row))
+-- 3, 13, else the record; n nodes behind a header of h bits
+unfoldable pub nodePlaced : ℕ → ℕ → List ℕ → ℕ → ℕ → List ℕ → Looked
+nodePlaced h n l k place row =
+    cond (isNode n k)
+    (cond (eqb place (nodePlace h 16 n k)) (nodeAt n l place) (looked (refusedNode (checked 13 0 0)) row))
     (looked (refusedNode (checked 3 0 0)) row)
 
-unfoldable pub nodeExamined : Fields → List ℕ → ℕ → ℕ → List ℕ → SaidCheck → Looked
-nodeExamined f l k place row c = cond (eqb (c .number) 0) (nodePlaced f l k place row) (looked (refusedNode c) row)
+-- by what the checks behind the header say: 2 or 12, else on
+unfoldable pub nodeExamined : ℕ → ℕ → List ℕ → ℕ → ℕ → List ℕ → SaidCheck → Looked
+nodeExamined h n l k place row c = cond (eqb (c .number) 0) (nodePlaced h n l k place row) (looked (refusedNode c) row)
 
-unfoldable pub nodeHeaded : List ℕ → ℕ → ℕ → List ℕ → Header → Looked
-nodeHeaded l k place row Short = looked (refusedNode (checked 10 0 0)) row
-nodeHeaded l k place row Wrong = looked (refusedNode (checked 11 0 0)) row
-nodeHeaded l k place row (Good f) =
-    cond (eqb (length row) (f .n * 7)) (nodeExamined f l k place row (examined 32 16 (f .n) l))
-    (looked (refusedNode (checked 1 0 0)) row)
+unfoldable pub nodeSized : ℕ → ℕ → List ℕ → ℕ → ℕ → List ℕ → Looked
+nodeSized h n l k place row =
+    cond (eqb (length row) (n * 7)) (nodeExamined h n l k place row (examined 32 16 n l)) (looked (refusedNode (checked 1 0 0)) row)
+
+-- by what the header says: 10 or 11, else on with its fields
+unfoldable pub nodeHeaded : List ℕ → ℕ → ℕ → List ℕ → SaidHeader → Looked
+nodeHeaded l k place row h =
+    cond (eqb (h .number) 0) (nodeSized (h .length) (h .n) l k place row) (looked (refusedNode (checked (h .number) 0 0)) row)
 
 unfoldable pub readNodeOn : List ℕ → ℕ → ℕ → List ℕ → Looked
 readNodeOn xs k place row = nodeHeaded (unpacked xs) k place row (headerOf xs)

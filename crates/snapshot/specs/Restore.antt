@@ -9,9 +9,7 @@ use Rattle.image.specs.Places.{tablesIn}
 use Rattle.network.specs.Check.{SaidCheck, checked}
 use Rattle.network.specs.Fresh.{Filled, filled}
 use Rattle.reading.specs.Examine.{examined}
-use Rattle.reading.specs.Header.{headerOf}
-use Rattle.reading.specs.declared.Header.{Header}
-use Rattle.reading.specs.declared.Header.the-variants.{Good, Short, Wrong}
+use Rattle.reading.specs.Header.{SaidHeader, headerOf}
 use Rattle.snapshot.specs.declared.Restored.{Restored}
 use Rattle.snapshot.specs.declared.Restored.the-variants.{Done, TooShort, BadHeader, Sizes, Fault, BadEnd}
 use Rattle.tables.specs.Tables.{Tables, sized}
@@ -24,12 +22,6 @@ saidRestore Sizes = checked 1 0 0
 saidRestore (Fault u v) = checked 2 u v
 saidRestore BadEnd = checked 12 0 0
 
--- a header that is not good; a good one is never answered so
-abbrev pub saidHeader : Header → SaidCheck
-saidHeader (Good f) = checked 11 0 0
-saidHeader Short = checked 10 0 0
-saidHeader Wrong = checked 11 0 0
-
 -- by what the checks behind the header say: 2 or 12, else the tables that the image's records make
 unfoldable pub restoreExamined : ℕ → List ℕ → Tables → SaidCheck → Filled
 restoreExamined n l t c = cond (eqb (c .number) 0) (filled c (tablesIn 32 16 n l)) (filled c t)
@@ -37,10 +29,9 @@ restoreExamined n l t c = cond (eqb (c .number) 0) (filled c (tablesIn 32 16 n l
 unfoldable pub restoreOf : ℕ → List ℕ → Tables → Filled
 restoreOf n l t = cond (sized n t) (restoreExamined n l t (examined 32 16 n l)) (filled (checked 1 0 0) t)
 
-unfoldable pub restoreHeaded : List ℕ → Tables → Header → Filled
-restoreHeaded l t Short = filled (checked 10 0 0) t
-restoreHeaded l t Wrong = filled (checked 11 0 0) t
-restoreHeaded l t (Good f) = restoreOf (f .n) l t
+-- by what the header says: 10 or 11, else on with its n
+unfoldable pub restoreHeaded : List ℕ → Tables → SaidHeader → Filled
+restoreHeaded l t h = cond (eqb (h .number) 0) (restoreOf (h .n) l t) (filled (checked (h .number) 0 0) t)
 
 unfoldable pub restoreOn : List ℕ → Tables → Filled
 restoreOn xs t = restoreHeaded (unpacked xs) t (headerOf xs)

@@ -7,16 +7,17 @@ ghost use Rattle.bits.specs.Bits.{unpacked};
 ghost use Rattle.image.specs.Parts.{Inside};
 ghost use Rattle.image.specs.Places.{nodePlace};
 ghost use Rattle.image.specs.Widths.{nodeWidth};
+ghost use Rattle.network.specs.Check.{checked};
 ghost use Rattle.protocol.specs.Component.{Node};
 ghost use Rattle.reading.specs.Examine.{Walkable};
-ghost use Rattle.reading.specs.declared.Header.the-variants.{Good};
-ghost use Rattle.snapshot.specs.ReadNode.{saidNode, refusedNode, looked, nodeAt, nodePlaced, nodeHeaded};
-ghost use Rattle.snapshot.specs.Restore.{saidHeader};
+ghost use Rattle.reading.specs.Header.{saidHeader};
+ghost use Rattle.snapshot.specs.ReadNode.{saidNode, refusedNode, looked, nodeAt, nodePlaced, nodeSized};
 use super::NodeRead;
 
 // What a header that is not good is answered with.
 pub fn of_header(h: reading::Header) -> NodeRead
-    ensures { λ r. ⌜ saidNode r ≡ refusedNode (saidHeader h) ⌝ }
+    requires { ⌜ (saidHeader h .number ≡ 0 → ⊥) ⌝ }
+    ensures { λ r. ⌜ saidNode r ≡ refusedNode (checked (saidHeader h .number) 0 0) ⌝ }
 {
     match h {
         reading::Header::Good(_) => NodeRead::BadHeader,
@@ -34,7 +35,8 @@ pub fn headed(
     row: &mut [u32],
 ) -> NodeRead
     requires { ⌜ (fields .length ≡ 32) × (1 ≤ fields .n) × (fields .n ≤ 16) ⌝ }
-    ensures { λ r. ⌜ looked (saidNode r) (now (row .exit)) ≡ nodeHeaded (unpacked (now (image .entry))) k place (now (row .entry)) (Good fields) ⌝ }
+    ensures { λ r. ⌜ looked (saidNode r) (now (row .exit))
+        ≡ nodeSized (fields .length) (fields .n) (unpacked (now (image .entry))) k place (now (row .entry)) ⌝ }
 {
     if row.len() != (fields.n as usize) * 7 {
         return NodeRead::Sizes;
@@ -59,7 +61,8 @@ fn start(fields: reading::Fields, k: u32) -> usize
 // 3, 13, or the record.
 fn placed(image: &[u8], fields: reading::Fields, k: u32, place: u64, row: &mut [u32]) -> NodeRead
     requires { ⌜ (fields .length ≡ 32) × (fields .n ≤ 16) × (length (now row) ≡ fields .n * 7) × Walkable 32 16 (fields .n) (unpacked (now image)) ⌝ }
-    ensures { λ r. ⌜ looked (saidNode r) (now (row .exit)) ≡ nodePlaced fields (unpacked (now (image .entry))) k place (now (row .entry)) ⌝ }
+    ensures { λ r. ⌜ looked (saidNode r) (now (row .exit))
+        ≡ nodePlaced (fields .length) (fields .n) (unpacked (now (image .entry))) k place (now (row .entry)) ⌝ }
 {
     if (k < 1) | (fields.n < k) {
         return NodeRead::NotNode;

@@ -3,14 +3,17 @@
 ghost use mathlib.Core.Path.{_≡_};
 ghost use Prim.Native.Nat.{_≤_};
 ghost use Rattle.bits.specs.Bits.{unpacked};
+ghost use Rattle.network.specs.Check.{checked};
 ghost use Rattle.network.specs.Fresh.{filled};
-ghost use Rattle.snapshot.specs.Restore.{saidRestore, saidHeader, restoreOf};
+ghost use Rattle.reading.specs.Header.{saidHeader};
+ghost use Rattle.snapshot.specs.Restore.{saidRestore, restoreOf};
 ghost use Rattle.tables.specs.Tables.{before, after};
 use super::Restored;
 
 // What a header that is not good is answered with.
 pub fn of_header(h: reading::Header) -> Restored
-    ensures { λ r. ⌜ saidRestore r ≡ saidHeader h ⌝ }
+    requires { ⌜ (saidHeader h .number ≡ 0 → ⊥) ⌝ }
+    ensures { λ r. ⌜ saidRestore r ≡ checked (saidHeader h .number) 0 0 ⌝ }
 {
     match h {
         reading::Header::Good(_) => Restored::BadHeader,

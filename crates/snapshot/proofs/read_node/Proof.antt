@@ -3,7 +3,7 @@
 use mathlib.Core.Path.{ap, _∙_}
 use Rattle.snapshot.specs.ReadNode.{SaidNode, looked}
 use Rattle.snapshot.proofs.LookLaws.{node-refused, node-headed}
-use Rattle.snapshot.proofs.RestoreLaws.{good-fields}
+use Rattle.snapshot.proofs.RestoreLaws.{refused, good-fields}
 use borrow.Author.Needs.{needs}
 use Rattle.snapshot.proofs.read_node.Statement.{statement}
 use Rattle.snapshot.proofs.read_node.Tie as tie
@@ -15,13 +15,14 @@ enum-known-h : tie.Need-enum-known-h
 enum-known-h c = search needs
 
 of-header-requires : tie.Need-of-header-requires
-of-header-requires c κs = search needs
+of-header-requires c κs = refused (c .before .decode .result) (c .match .keys2)
 
 returns : tie.Need-returns
 returns c =
     let s = c .before .before .before .before .before in
+    let h = c .before .before .decode in
     ap (λ (x : SaidNode). looked x (s .args .row .now)) (c .of-header .ensures)
-    ∙ node-refused _ (s .args .k) (s .args .place) (s .args .row .now) _ (c .before .before .decode .ensures) (c .before .match .keys2)
+    ∙ node-refused _ (s .args .k) (s .args .place) (s .args .row .now) (h .ensures) (refused (h .result) (c .before .match .keys2))
 
 headed-requires : tie.Need-headed-requires
 headed-requires c κs =

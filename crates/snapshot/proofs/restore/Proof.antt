@@ -4,7 +4,7 @@ use mathlib.Core.Path.{ap, _∙_}
 use Rattle.network.specs.Check.{SaidCheck}
 use Rattle.network.specs.Fresh.{filled}
 use Rattle.tables.specs.Tables.{tables}
-use Rattle.snapshot.proofs.RestoreLaws.{headed-refused, headed-good, good-fields}
+use Rattle.snapshot.proofs.RestoreLaws.{refused, headed-refused, headed-good, good-fields}
 use borrow.Author.Needs.{needs}
 use Rattle.snapshot.proofs.restore.Statement.{statement}
 use Rattle.snapshot.proofs.restore.Tie as tie
@@ -16,13 +16,14 @@ enum-known-h : tie.Need-enum-known-h
 enum-known-h c = search needs
 
 of-header-requires : tie.Need-of-header-requires
-of-header-requires c κs = search needs
+of-header-requires c κs = refused (c .before .decode .result) (c .match .keys2)
 
 returns : tie.Need-returns
 returns c =
     let s = c .before .before .before .before .before .before in
     let t = tables (s .args .nodes .now) (s .args .channels .now) in
-    ap (λ (x : SaidCheck). filled x t) (c .of-header .ensures) ∙ headed-refused _ t _ (c .before .before .decode .ensures) (c .before .match .keys2)
+    let h = c .before .before .decode in
+    ap (λ (x : SaidCheck). filled x t) (c .of-header .ensures) ∙ headed-refused _ t (h .ensures) (refused (h .result) (c .before .match .keys2))
 
 headed-requires : tie.Need-headed-requires
 headed-requires c κs =

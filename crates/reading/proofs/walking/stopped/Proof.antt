@@ -2,7 +2,7 @@
 -- Assumes nothing.
 use mathlib.Core.Path.{sym, ap}
 use borrow.Author.Needs.{needs}
-use Rattle.reading.specs.Examine.{saidStopped}
+use Rattle.reading.specs.Walk.{saidWalk}
 use Rattle.reading.proofs.walking.stopped.Statement.{statement}
 use Rattle.reading.proofs.walking.stopped.Tie as tie
 
@@ -19,7 +19,7 @@ returns : tie.Need-returns
 returns c = search needs
 
 returns-2 : tie.Need-returns-2
-returns-2 c = ap saidStopped (sym (c .before .w .given .1))
+returns-2 c = ap saidWalk (sym (c .before .w .given .1))
 
 returns-3 : tie.Need-returns-3
 returns-3 c = search needs

@@ -14,7 +14,7 @@ mul-if1 : tie.Need-mul-if1
 mul-if1 c = search needs
 
 returns : tie.Need-returns
-returns c = node-sizes _ _ _ _ _ (c .if1 .taken)
+returns c = node-sizes _ _ _ _ _ _ (c .if1 .taken)
 
 examine-requires : tie.Need-examine-requires
 examine-requires c κs = search needs
@@ -42,13 +42,13 @@ returns-2 c =
     c .before .before .placed .ensures
     ∙ (let told = c .before .before .before .before in
     let e = told .before .before in
-    node-sound _ _ _ _ _ (e .before .if1 .left) (e .examine .ensures) (told .enum-told .given .1))
+    node-sound _ _ _ _ _ _ (e .before .if1 .left) (e .examine .ensures) (told .enum-told .given .1))
 
 returns-3 : tie.Need-returns-3
-returns-3 c = node-fault _ _ _ _ _ (c .before .before .before .before .if1 .left) (c .before .before .before .examine .ensures) (c .before .u .given .1)
+returns-3 c = node-fault _ _ _ _ _ _ (c .before .before .before .before .if1 .left) (c .before .before .before .examine .ensures) (c .before .u .given .1)
 
 returns-4 : tie.Need-returns-4
-returns-4 c = node-end _ _ _ _ _ (c .before .before .before .if1 .left) (c .before .before .examine .ensures) (c .enum-told2 .given .1)
+returns-4 c = node-end _ _ _ _ _ _ (c .before .before .before .if1 .left) (c .before .before .examine .ensures) (c .enum-told2 .given .1)
 
 pub headed-spec : {M : Type 1} → statement M
 headed-spec =

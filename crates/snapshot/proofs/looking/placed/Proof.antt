@@ -10,7 +10,7 @@ use Rattle.snapshot.proofs.looking.placed.Statement.{statement}
 use Rattle.snapshot.proofs.looking.placed.Tie as tie
 
 returns : tie.Need-returns
-returns c = not-node _ _ _ _ _ (c .if1 .taken)
+returns c = not-node _ _ _ _ _ _ (c .if1 .taken)
 
 start-requires : tie.Need-start-requires
 start-requires c κs = let s = c .before .before .before .before in (s .pre .0, s .pre .1, node-is _ (s .args .k) (c .if1 .left))
@@ -19,7 +19,7 @@ returns-2 : tie.Need-returns-2
 returns-2 c =
     let s = c .before .before .before .before .before .before in
     let node = node-is _ (s .args .k) (c .before .before .if1 .left) in
-    not-place _ _ _ _ _ node (λ e. c .if2 .taken (e ∙ sym (c .before .start .ensures .0)))
+    not-place _ _ _ _ _ _ node (λ e. c .if2 .taken (e ∙ sym (c .before .start .ensures .0)))
 
 record-at-requires : tie.Need-record-at-requires
 record-at-requires c κs =
@@ -36,7 +36,7 @@ returns-3 c =
     let s = c .before .before .before .before .before .before .before .before .before .before in
     let node = node-is _ (s .args .k) (c .before .before .before .before .before .before .if1 .left) in
     let at = c .before .before .before .before .before .start .ensures .0 in
-    c .before .before .record-at .ensures ∙ at-place _ _ _ _ _ node _ at (c .before .before .before .before .if2 .left)
+    c .before .before .record-at .ensures ∙ at-place _ _ _ _ _ _ node _ at (c .before .before .before .before .if2 .left)
 
 pub placed-spec : {M : Type 1} → statement M
 placed-spec =

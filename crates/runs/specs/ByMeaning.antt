@@ -1,0 +1,33 @@
+-- The same lists of calls on a network of n nodes, by the meaning alone: what each call answers, and the network after it.
+-- A save puts out the network's image; a restore is what it does to the network's tables.
+use Prim.Native.Nat.{ℕ}
+use mathlib.Core.Bool.{cond}
+use mathlib.Core.List.{List, [], _∷_}
+use lib.Dec.{eqb}
+use Rattle.image.specs.Image.{image}
+use Rattle.protocol.specs.Network.{Network}
+use Rattle.protocol.specs.Run.{Call, event, save, restore, Returned, Calls, RunState, act, meant}
+use Rattle.snapshot.specs.Restore.{restoreOn}
+use Rattle.snapshot.specs.Save.{SaveOutcome, saidSaved, saving, put}
+use Rattle.tables.specs.Load.{load, tablesOf}
+use Rattle.runs.specs.OnTables.{Reply, toEvent, toSave, toRestore, writing}
+
+-- a save of m nodes into lent bytes: 1 for another n, else the image, or 14
+unfoldable pub saveMeant : ℕ → ℕ → List ℕ → Network → SaveOutcome
+saveMeant n m out p = cond (eqb m n) (put (image n p) out) (saving (saidSaved 1 0 0 0) out)
+
+unfoldable pub restoreMeant : ℕ → List ℕ → Network → Returned Network
+restoreMeant n b p =
+    record { number = restoreOn b (tablesOf n p) .said .number; left = load n (restoreOn b (tablesOf n p) .after) }
+
+abbrev pub byMeaning : ℕ → Calls Network
+byMeaning n = meant (λ m out p. writing (saveMeant n m out p)) (restoreMeant n) n
+
+unfoldable pub replyTo : ℕ → Network → Call → Reply
+replyTo n p (event m e) = toEvent (byMeaning n .stepped m e p .said)
+replyTo n p (save m out) = toSave (saveMeant n m out p)
+replyTo n p (restore b) = toRestore (restoreOn b (tablesOf n p) .said)
+
+unfoldable pub repliesTo : ℕ → RunState Network → List Call → List Reply
+repliesTo n w [] = []
+repliesTo n w (c ∷ cs) = replyTo n (w .now) c ∷ repliesTo n (act (byMeaning n) w c) cs
