@@ -11,8 +11,7 @@ use Rattle.protocol.specs.History.{upIn, waiting, Told, State, advance}
 use Rattle.protocol.specs.Holds.{sound}
 use Rattle.protocol.specs.Network.{Network, fresh, own, restrict}
 use Rattle.protocol.specs.Run.{Call, Stepped, Returned, Saved, RunState, startOfRun, savedAt, lastSave, steppedTo, keeping}
-use Rattle.protocol.specs.Run.{act, perform, Fair, fairEvent, fairSave, fairSaved, fairRefused, AllFair, fairNil, fairCons, meant}
-use Rattle.protocol.specs.Step.{Event}
+use Rattle.protocol.specs.Run.{act, Fair, fairEvent, fairSave, fairSaved, fairRefused, meant}
 use Rattle.protocol.proofs.AllOf.{AllOf, none, more}
 use Rattle.protocol.proofs.Good.{Good, good-started, good-advance}
 use Rattle.protocol.proofs.Holding.{sound-holds}
@@ -82,10 +81,6 @@ module _ (write : ℕ → List ℕ → Network → Returned (List ℕ)) (read : 
   act-sane w c s (fairRefused b d) = rw (read-refused w b s d, ne-eqb (read b (w .now) .number) 0 d) s
   act-sane w c s (fairSaved b t e) =
       rw (read-saved w b t s e (w .now), e) (record { good = found Imaged b (w .saves) (s .saves) t e .1 .good; saves = s .saves })
-
-  pub perform-sane : (w : RunState Network) (cs : List Call) → Sane w → AllFair (meant write read n) w cs → Sane (perform (meant write read n) w cs)
-  perform-sane w cs s fairNil = s
-  perform-sane w cs s (fairCons {c = c} {cs = rest} f fs) = perform-sane (act (meant write read n) w c) rest (act-sane w c s f) fs
 
   pub start-sane : Sane (startOfRun fresh)
   start-sane = record { good = good-started n; saves = none }

@@ -1,7 +1,7 @@
 -- Demand 3, whole: one statement about a whole list of calls on lent tables of n nodes, from `fresh` (document 01, "Lists of calls").
 -- Calls are events, saves and restores with any numbers, refused ones among them; what each answers and leaves is its contract's. Assumes 1 ≤ n ≤ 16.
 use Prim.Native.Nat.{ℕ, _+_, _≤_}
-use mathlib.Core.List.{List, [], _∷_, _++_}
+use mathlib.Core.List.{List, _∷_, _++_}
 use mathlib.Core.Path.{_≡_, sym, ap, _∙_}
 use lib.ListN.{length}
 use Rattle.election.specs.RunOn.{EventCall, tablesAfter as tablesAfterEvents, saidByTables}
@@ -14,11 +14,11 @@ use Rattle.protocol.specs.Run.{Call, restore, Saved, RunState, startOfRun, save
 use Rattle.protocol.proofs.Runs.{stateOf, good-promise}
 use Rattle.protocol.proofs.SavesLaws.{restore-history}
 use Rattle.snapshot.specs.Restore.{restoreOn}
-use Rattle.tables.specs.Load.{load, tablesOf}
+use Rattle.tables.specs.Load.{load}
 use Rattle.tables.specs.Tables.{Tables}
 use Rattle.runs.specs.OnTables.{tablesAfterAll, onTables, freshTables, then, after, Allowed}
 use Rattle.runs.proofs.Lists.{fair-first, fair-rest, fair-head}
-use Rattle.runs.proofs.Simulation.{Simulated, ontoSave, last-from, restore-is, from-fresh}
+use Rattle.runs.proofs.Simulation.{last-from, restore-is, from-fresh}
 use Rattle.runs.proofs.TablesRun.{meantAfter, now-after, on-tables}
 
 -- ---- the statement

@@ -9,7 +9,6 @@ use borrow.Author.Tests.{eqb-true}
 use lib.Dec.{eqb, leb}
 use lib.ListN.{length, take, drop}
 use Rattle.image.specs.Image.{image}
-use Rattle.network.specs.Fresh.{Filled}
 use Rattle.network.proofs.CheckLaws.{is-sized}
 use Rattle.protocol.specs.Holds.{sound}
 use Rattle.protocol.specs.Network.{Network, restrict}
@@ -21,7 +20,7 @@ use Rattle.snapshot.specs.Restore.{restoreOn}
 use Rattle.snapshot.specs.Save.{put}
 use Rattle.snapshot.proofs.RefusedLaws.{restore-kept}
 use Rattle.snapshot.proofs.RestoreSaved.{restore-image}
-use Rattle.tables.specs.Load.{load, tablesOf}
+use Rattle.tables.specs.Load.{tablesOf}
 use Rattle.tables.proofs.Back.{storable, load-back, tables-sized}
 use Rattle.runs.specs.ByMeaning.{saveMeant, restoreMeant}
 use Rattle.runs.specs.OnTables.{putOut, writing}

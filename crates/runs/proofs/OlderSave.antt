@@ -6,48 +6,45 @@ use mathlib.Core.Bool.{true}
 use mathlib.Core.List.{List, [], _∷_, _++_, map}
 use mathlib.Core.Path.{_≡_, refl}
 use lib.ListN.{replicate}
-use Rattle.height.specs.Height.{zeroLevel}
-use Rattle.protocol.specs.Answer.{carriedOut, saidRefused}
-use Rattle.protocol.specs.Component.{Node, OneLeader, pairQuiet, nodeQuiet, quiet}
-use Rattle.protocol.specs.Network.{upTo, own}
-use Rattle.protocol.specs.Run.{Call, event, save, restore, Saved, RunState, startOfRun, fairSaved, fairRefused, fairNil, fairCons}
-use Rattle.protocol.specs.Step.{up, down, receive}
-use Rattle.network.specs.Check.{checked}
-use Rattle.snapshot.specs.Save.{saidSaved, saving}
-use Rattle.runs.specs.OnTables.{Reply, toEvent, toSave, toRestore, putOut, onTables, freshTables, after, Allowed}
-use Rattle.runs.proofs.Demand3.{tablesAt, networkAt, Resumed, demand-3}
-use Rattle.runs.proofs.Lists.{fair-append, plain-fair}
-use Rattle.runs.proofs.ReadOff.{read-off}
-use Rattle.runs.proofs.SavedComesBack.{ComesBack, saved-comes-back}
 use Rattle.bits.specs.Bits.{bits, number, unpacked, packed, field, spread, gathered}
 use Rattle.election.specs.StepOn.{stepAt, stepChecked, stepOn}
-use Rattle.height.specs.Height.{levelKey, pairKey, heightKey}
+use Rattle.height.specs.Height.{zeroLevel, levelKey, pairKey, heightKey}
 use Rattle.height.specs.Order.{before, same}
 use Rattle.height.specs.Words.{deltaOf, deltaWord, heightWords, heightAt}
 use Rattle.image.specs.Image.{headerBits, nodeBits, messageBits, channelBits, channelsBits, networkBits, padded, bytesOf, imageOf, image}
-use Rattle.image.specs.Places.{fieldIn, nodePlace, heightFrom, messagesOf, channelFrom, walked, channelNext, channelsNext, channelsPlace, channelsFromPlace, channelPlace, imageEnd, recordsIn, tablesIn}
+use Rattle.image.specs.Places.{fieldIn, nodePlace, heightFrom, messagesOf, channelFrom, walked, channelNext}
+use Rattle.image.specs.Places.{channelsNext, channelsPlace, channelsFromPlace, channelPlace, imageEnd, recordsIn, tablesIn}
 use Rattle.image.specs.Records.{recordsOf, rowOf, placesOf, cellOf, messagesFrom, tablesFrom}
 use Rattle.image.specs.Widths.{recordBits, extendedOf, recordOf, heightWidth, messageWidth, nodeWidth}
-use Rattle.network.specs.Check.{place, faultInRow, faultFrom, firstFault, checkOn}
+use Rattle.network.specs.Check.{checked, place, faultInRow, faultFrom, firstFault, checkOn}
 use Rattle.nodeset.specs.NodeSet.{member, setOf, within}
 use Rattle.places.specs.Place.{ownPlace, viewPlace, channelPlace as channelPlaceHolds, placeIn}
+use Rattle.protocol.specs.Answer.{carriedOut, saidRefused}
+use Rattle.protocol.specs.Component.{Node, OneLeader, pairQuiet, nodeQuiet, quiet}
 use Rattle.protocol.specs.Functions.{every, all, update}
 use Rattle.protocol.specs.Holds.{levelHolds, deltaHolds, pairHolds, heightHolds, messageHolds, notInBoth, setsHold}
+use Rattle.protocol.specs.Network.{upTo, own}
 use Rattle.protocol.specs.Refusal.{misnamed, late, hasRoom, crowded, returned, accepts, answer, next}
 use Rattle.protocol.specs.Rules.{absent, downRule, larger, largest, deltas, ofLevel, oneLevelRule, equalPairsRule, receiptRule}
+use Rattle.protocol.specs.Run.{Call, event, save, restore, Saved, RunState, startOfRun, fairSaved, fairRefused, fairNil, fairCons}
 use Rattle.protocol.specs.Sink.{above, sink}
-use Rattle.protocol.specs.Step.{carried, localUp, localDown, localIgnored, localTaken, post, commit, step}
+use Rattle.protocol.specs.Step.{up, down, receive, carried, localUp, localDown, localIgnored, localTaken, post, commit, step}
 use Rattle.reading.specs.Examine.{afterWalk, examined}
 use Rattle.reading.specs.Header.{headerHolds, headerOf}
 use Rattle.reading.specs.Walk.{channelStep, onward, steps, channelsFromWalk, channelsWalk, walk, endsAt}
 use Rattle.snapshot.specs.Restore.{restoreExamined, restoreOf, restoreHeaded, restoreOn}
-use Rattle.snapshot.specs.Save.{put, saveChecked, saveOn}
+use Rattle.snapshot.specs.Save.{saidSaved, saving, put, saveChecked, saveOn}
 use Rattle.tables.specs.Cell.{messageAt, messagesAt, queue, allZero, messageWords, placeWords, cellWords}
 use Rattle.tables.specs.Load.{load, tablesOf}
 use Rattle.tables.specs.Row.{heightIn, nodeWords}
 use Rattle.tables.specs.Rows.{rowAt, rows}
 use Rattle.tables.specs.Tables.{Tables, sized}
+use Rattle.runs.specs.OnTables.{Reply, toEvent, toSave, toRestore, putOut, onTables, freshTables, after, Allowed}
 use Rattle.runs.specs.OnTables.{reply, tablesAfter, tablesAfterAll, replies}
+use Rattle.runs.proofs.Demand3.{tablesAt, networkAt, Resumed, demand-3}
+use Rattle.runs.proofs.Lists.{fair-append, plain-fair}
+use Rattle.runs.proofs.ReadOff.{read-off}
+use Rattle.runs.proofs.SavedComesBack.{ComesBack, saved-comes-back}
 
 -- ---- the calls
 
@@ -70,14 +67,16 @@ room = replicate 120 0
 -- what the two saves write: 101 and 69 bytes
 abbrev pub older : List ℕ
 older =
-    16 ∷ 32 ∷ 16 ∷ 0 ∷ 0 ∷ 0 ∷ 0 ∷ 1 ∷ 0 ∷ 0 ∷ 0 ∷ 2 ∷ 0 ∷ 0 ∷ 0 ∷ 0 ∷ 0 ∷ 0 ∷ 0 ∷ 0 ∷ 0 ∷ 0 ∷ 0 ∷ 33 ∷ 0 ∷ 0 ∷ 0 ∷ 0 ∷ 0 ∷ 0 ∷ 0 ∷ 0 ∷ 0 ∷ 0 ∷ 0 ∷
-    0 ∷ 0 ∷ 0 ∷ 0 ∷ 2 ∷ 0 ∷ 1 ∷ 0 ∷ 0 ∷ 0 ∷ 0 ∷ 0 ∷ 0 ∷ 0 ∷ 0 ∷ 0 ∷ 0 ∷ 0 ∷ 0 ∷ 0 ∷ 33 ∷ 0 ∷ 0 ∷ 0 ∷ 0 ∷ 0 ∷ 0 ∷ 4 ∷ 0 ∷ 0 ∷ 0 ∷ 0 ∷ 34 ∷ 2 ∷ 0 ∷ 0 ∷
-    0 ∷ 0 ∷ 0 ∷ 0 ∷ 0 ∷ 0 ∷ 0 ∷ 0 ∷ 0 ∷ 66 ∷ 0 ∷ 0 ∷ 0 ∷ 1 ∷ 0 ∷ 0 ∷ 0 ∷ 0 ∷ 0 ∷ 0 ∷ 4 ∷ 0 ∷ 0 ∷ 0 ∷ 0 ∷ 34 ∷ 0 ∷ 0 ∷ 0 ∷ 2 ∷ []
+    16 ∷ 32 ∷ 16 ∷ 0 ∷ 0 ∷ 0 ∷ 0 ∷ 1 ∷ 0 ∷ 0 ∷ 0 ∷ 2 ∷ 0 ∷ 0 ∷ 0 ∷ 0 ∷ 0 ∷ 0 ∷ 0 ∷ 0 ∷ 0 ∷ 0 ∷ 0 ∷ 33 ∷ 0 ∷ 0 ∷ 0 ∷
+    0 ∷ 0 ∷ 0 ∷ 0 ∷ 0 ∷ 0 ∷ 0 ∷ 0 ∷ 0 ∷ 0 ∷ 0 ∷ 0 ∷ 2 ∷ 0 ∷ 1 ∷ 0 ∷ 0 ∷ 0 ∷ 0 ∷ 0 ∷ 0 ∷ 0 ∷ 0 ∷ 0 ∷ 0 ∷ 0 ∷ 0 ∷ 0 ∷
+    33 ∷ 0 ∷ 0 ∷ 0 ∷ 0 ∷ 0 ∷ 0 ∷ 4 ∷ 0 ∷ 0 ∷ 0 ∷ 0 ∷ 34 ∷ 2 ∷ 0 ∷ 0 ∷ 0 ∷ 0 ∷ 0 ∷ 0 ∷ 0 ∷ 0 ∷ 0 ∷ 0 ∷ 0 ∷ 66 ∷ 0 ∷
+    0 ∷ 0 ∷ 1 ∷ 0 ∷ 0 ∷ 0 ∷ 0 ∷ 0 ∷ 0 ∷ 4 ∷ 0 ∷ 0 ∷ 0 ∷ 0 ∷ 34 ∷ 0 ∷ 0 ∷ 0 ∷ 2 ∷ []
 
 abbrev pub younger : List ℕ
 younger =
-    16 ∷ 32 ∷ 16 ∷ 0 ∷ 0 ∷ 0 ∷ 0 ∷ 3 ∷ 0 ∷ 2 ∷ 0 ∷ 0 ∷ 0 ∷ 0 ∷ 0 ∷ 0 ∷ 0 ∷ 0 ∷ 0 ∷ 0 ∷ 0 ∷ 0 ∷ 0 ∷ 33 ∷ 0 ∷ 0 ∷ 0 ∷ 0 ∷ 0 ∷ 0 ∷ 4 ∷ 0 ∷ 0 ∷ 0 ∷ 0 ∷
-    34 ∷ 0 ∷ 0 ∷ 0 ∷ 3 ∷ 0 ∷ 1 ∷ 0 ∷ 0 ∷ 0 ∷ 0 ∷ 0 ∷ 0 ∷ 0 ∷ 0 ∷ 0 ∷ 0 ∷ 0 ∷ 0 ∷ 0 ∷ 33 ∷ 0 ∷ 0 ∷ 0 ∷ 0 ∷ 0 ∷ 0 ∷ 4 ∷ 0 ∷ 0 ∷ 0 ∷ 0 ∷ 34 ∷ 0 ∷ []
+    16 ∷ 32 ∷ 16 ∷ 0 ∷ 0 ∷ 0 ∷ 0 ∷ 3 ∷ 0 ∷ 2 ∷ 0 ∷ 0 ∷ 0 ∷ 0 ∷ 0 ∷ 0 ∷ 0 ∷ 0 ∷ 0 ∷ 0 ∷ 0 ∷ 0 ∷ 0 ∷ 33 ∷ 0 ∷ 0 ∷ 0 ∷
+    0 ∷ 0 ∷ 0 ∷ 4 ∷ 0 ∷ 0 ∷ 0 ∷ 0 ∷ 34 ∷ 0 ∷ 0 ∷ 0 ∷ 3 ∷ 0 ∷ 1 ∷ 0 ∷ 0 ∷ 0 ∷ 0 ∷ 0 ∷ 0 ∷ 0 ∷ 0 ∷ 0 ∷ 0 ∷ 0 ∷ 0 ∷ 0 ∷
+    33 ∷ 0 ∷ 0 ∷ 0 ∷ 0 ∷ 0 ∷ 0 ∷ 4 ∷ 0 ∷ 0 ∷ 0 ∷ 0 ∷ 34 ∷ 0 ∷ []
 
 abbrev pub first : List Call
 first = meet ++ (save 2 room ∷ (settle ++ (save 2 room ∷ separate)))

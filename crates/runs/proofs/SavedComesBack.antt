@@ -6,7 +6,7 @@ use mathlib.Core.Path.{_≡_, refl, sym, ap, subst, _∙_}
 use Rattle.network.specs.Check.{checked}
 use Rattle.network.specs.Fresh.{Filled, filled}
 use Rattle.protocol.specs.Network.{Network, fresh}
-use Rattle.protocol.specs.Run.{Call, save, restore, Returned, Saved, RunState, startOfRun, sameBytes, savedAt, lastSave, act, perform}
+use Rattle.protocol.specs.Run.{Call, save, restore, Saved, RunState, startOfRun, savedAt, lastSave, act, perform}
 use Rattle.protocol.specs.Run.{Fair, fairEvent, fairSave, fairSaved, fairRefused, AllFair, fairNil, fairCons}
 use Rattle.protocol.proofs.SavesLaws.{save-last, not-forgotten}
 use Rattle.snapshot.specs.Restore.{restoreOn}
@@ -14,7 +14,7 @@ use Rattle.snapshot.specs.Save.{saveOn}
 use Rattle.tables.specs.Load.{tablesOf}
 use Rattle.tables.specs.Tables.{Tables}
 use Rattle.runs.specs.ByMeaning.{byMeaning}
-use Rattle.runs.specs.OnTables.{putOut, writing, onTables, freshTables, then, after, Allowed}
+use Rattle.runs.specs.OnTables.{putOut, onTables, freshTables, then, after, Allowed}
 use Rattle.runs.proofs.Demand3.{tablesAt, put-back}
 use Rattle.runs.proofs.ImageBack.{SaneRun}
 use Rattle.runs.proofs.Lists.{perform-append, fair-first, fair-rest, fair-append, fair-head, fair-tail}

@@ -3,26 +3,24 @@
 use Prim.Native.Nat.{ℕ, _≤_}
 use native.Mathlib.Omega.{arith}
 use mathlib.Core.List.{List, [], _∷_, map}
-use mathlib.Core.Logic.{_⊎_, inl, inr}
+use mathlib.Core.Logic.{inl, inr}
 use mathlib.Core.Path.{_≡_, refl, sym, ap, subst, _∙_}
 use borrow.Author.Tests.{eq-eqb, ne-eqb}
 use lib.Dec.{eqb}
-use Rattle.election.specs.StepOn.{Outcome}
 use Rattle.election.specs.RunOn.{saidTo, called}
-use Rattle.election.specs.StepOn.{outcome, stepOn}
+use Rattle.election.specs.StepOn.{Outcome, outcome, stepOn}
 use Rattle.election.proofs.RunLaws.{not-sized, one-call}
 use Rattle.network.specs.Check.{checked, checkOn}
-use Rattle.network.specs.Fresh.{Filled}
 use Rattle.network.proofs.CheckLaws.{check-sizes}
 use Rattle.network.proofs.SoundNetworks.{sound-check}
 use Rattle.protocol.specs.History.{advance}
 use Rattle.protocol.specs.Network.{Network, fresh}
 use Rattle.protocol.specs.Run.{Call, event, save, restore, Returned, Saved, RunState, startOfRun, sameBytes, Earlier, never, savedAt, lastSave, historyAt}
-use Rattle.protocol.specs.Run.{steppedTo, savedTo, restored, act, perform, Fair, fairEvent, fairSave, fairSaved, fairRefused, AllFair, fairNil, fairCons}
+use Rattle.protocol.specs.Run.{steppedTo, savedTo, act, perform, Fair, fairEvent, fairSave, fairSaved, fairRefused, AllFair}
 use Rattle.protocol.specs.Step.{Event}
 use Rattle.protocol.proofs.Holding.{sound-holds}
 use Rattle.protocol.proofs.Restrict.{restrict-is}
-use Rattle.protocol.proofs.Runs.{stateOf, act-sane, perform-sane, start-sane, Imaged}
+use Rattle.protocol.proofs.Runs.{stateOf, act-sane, start-sane, Imaged}
 use Rattle.protocol.proofs.SavesLaws.{found}
 use Rattle.protocol.proofs.TestsLaws.{Choice, yes!, no!, choice, SameOrNot, equal?}
 use Rattle.snapshot.specs.Restore.{restoreOn}
@@ -32,7 +30,7 @@ use Rattle.tables.specs.Load.{load, tablesOf}
 use Rattle.tables.specs.Tables.{Tables}
 use Rattle.tables.proofs.Back.{storable, load-back}
 use Rattle.runs.specs.ByMeaning.{saveMeant, restoreMeant, byMeaning}
-use Rattle.runs.specs.OnTables.{stepping, writing, refilling, onTables, freshTables, then, after, Allowed}
+use Rattle.runs.specs.OnTables.{stepping, writing, onTables, then, after, Allowed}
 use Rattle.runs.proofs.ImageBack.{ImageOf, writes, reads, kept, restore-of, SaneRun}
 use Rattle.runs.proofs.Lists.{fair-head, fair-tail}
 
