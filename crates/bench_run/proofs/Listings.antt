@@ -12,14 +12,14 @@ use Rattle.election.proofs.RunLaws.{own-call}
 use Rattle.protocol.specs.Component.{Node}
 use Rattle.protocol.specs.History.{State, started, advance}
 use Rattle.protocol.specs.Network.{Network, fresh}
-use Rattle.protocol.specs.Step.{Event, up, down, receive}
+use Rattle.protocol.specs.Step.{Event}
 use Rattle.protocol.proofs.Good.{Good, good-started, good-advance}
 use Rattle.tables.specs.Load.{tablesOf}
 use Rattle.tables.specs.Tables.{Tables}
 use Rattle.tables.proofs.Back.{storable, load-back}
 use Rattle.tables.proofs.RowsMore.{rows-same}
 use Rattle.tables.proofs.TablesLaws.{load-clock, load-height}
-use Rattle.bench_run.specs.Listing.{saidLine, byEvent, commandLine, afterCommand, eventLines, afterLines, stationLines}
+use Rattle.bench_run.specs.Listing.{saidLine, eventNamed, byEvent, commandLine, afterCommand, eventLines, afterLines, stationLines}
 use Rattle.bench_run.specs.OnTables.{commandLineOn, afterCommandOn, eventLinesOn, afterLinesOn, stationLineOn, stationLinesOn}
 
 -- the state after a command
@@ -35,9 +35,7 @@ module _ {A B : Type 0} (R : A → B → Type 0) where
   by-event : {f : Event → A} {g : Event → B} {a : A} {b : B} → ((e : Event) → R (f e) (g e)) → R a b
       → (c : SaidCommand) → R (byEvent f a c) (byEvent g b c)
   unfolding byEvent
-  by-event each other c =
-      either (eqb (c .letter) 85) (each (up (c .first) (c .second))) (either (eqb (c .letter) 68) (each (down (c .first) (c .second)))
-      (either (eqb (c .letter) 77) (each (receive (c .first) (c .second))) other))
+  by-event each other c = either (eqb (c .number) 0) (each (eventNamed c)) other
 
 module _ (n : ℕ) (low : 1 ≤ n) (few : n ≤ 16) where
   module _ (s : State) (good : Good n s) where

@@ -36,12 +36,16 @@ eventLine k code letter sent = decimal k ++ (32 ∷ (decimal code ++ (32 ∷ let
 unfoldable pub saidLine : ℕ → Said → List ℕ
 saidLine k s = eventLine k (s .number) (s .rule) (ones (s .sentTo))
 
--- `act` on the event that a command's letter names: U, D, or M (M u v is a receipt at v from u); else `other`.
--- That is a malformed line and nothing more: no line says another letter (`commands`, proofs/Said.antt)
+-- the event that a line's letter and numbers name: U, D, or M (M u v is a receipt at v from u; a line that names an event has no other letter:
+-- `commands`, proofs/Said.antt)
+abbrev pub eventNamed : SaidCommand → Event
+eventNamed c =
+    cond (eqb (c .letter) 85) (up (c .first) (c .second))
+    (cond (eqb (c .letter) 68) (down (c .first) (c .second)) (receive (c .first) (c .second)))
+
+-- `act` on the event that a line names, `other` for a malformed one
 unfoldable pub byEvent : {A : Type 0} → (Event → A) → A → SaidCommand → A
-byEvent act other c =
-    cond (eqb (c .letter) 85) (act (up (c .first) (c .second))) (cond (eqb (c .letter) 68) (act (down (c .first) (c .second)))
-    (cond (eqb (c .letter) 77) (act (receive (c .first) (c .second))) other))
+byEvent act other c = cond (eqb (c .number) 0) (act (eventNamed c)) other
 
 -- what a command prints, as line k, and the network after it; a malformed line prints its number and does nothing
 unfoldable pub commandLine : ℕ → Network → ℕ → SaidCommand → List ℕ

@@ -9,7 +9,7 @@ use mathlib.Core.Path.{_≡_, refl, sym, ap, _∙_, fun-ext}
 use lib.ListN.{length}
 use Rattle.height.proofs.OrderLaws.{clash}
 use Rattle.protocol.specs.Component.{Node, Two, Quiescent, OneLeader, pairQuiet, nodeQuiet, quiet}
-use Rattle.protocol.specs.History.{History, upIn, waiting, State}
+use Rattle.protocol.specs.History.{History, upIn, waiting, Told, State}
 use Rattle.protocol.specs.Holds.{isEmpty}
 use Rattle.protocol.specs.Network.{Network, upTo, own}
 use Rattle.protocol.proofs.Channels.{no-length, is-empty}
@@ -49,27 +49,28 @@ beq-refl : (a : Bool) → Bool·beq a a ≡ true
 beq-refl true = refl
 beq-refl false = refl
 
+-- for a history that tells what the network holds
+pub quiet-quiescent : (n : ℕ) (p : Network) (h : History) → Told h p → quiet n p ≡ true → Quiescent n (upIn h) (waiting h)
+unfolding quiet nodeQuiet pairQuiet
+quiet-quiescent n p h told e = record { empty = empty; paired = paired }
+  where
+    at : (u v : ℕ) → Two n u v → pairQuiet p u v ≡ true
+    at u v t =
+        every-at n (pairQuiet p u) (every-at n (nodeQuiet n p) e u (t .one .low) (t .one .high)) v (t .other .low) (t .other .high)
+
+    empty : (u v : ℕ) → Two n u v → waiting h u v ≡ 0
+    empty u v t =
+        let none : length (p .channel u v) ≡ 0 = ap length (is-empty (p .channel u v) (and-left (isEmpty (p .channel u v)) _ (at u v t))) in
+        omega (arith, told .counts u v)
+
+    paired : (u v : ℕ) → Two n u v → upIn h u v ≡ upIn h v u
+    paired u v t =
+        let same : upTo p u v ≡ upTo p v u = same-bool _ _ (and-right (isEmpty (p .channel u v)) _ (at u v t)) in
+        told .ups u v ∙ (same ∙ sym (told .ups v u))
+
 module _ (n : ℕ) (s : State) (g : Good n s) where
   abbrev p : Network
   p = s .network
-
-  pub quiet-quiescent : quiet n (s .network) ≡ true → Quiescent n (upIn (s .history)) (waiting (s .history))
-  unfolding quiet nodeQuiet pairQuiet
-  quiet-quiescent e = record { empty = empty; paired = paired }
-    where
-      at : (u v : ℕ) → Two n u v → pairQuiet p u v ≡ true
-      at u v t =
-          every-at n (pairQuiet p u) (every-at n (nodeQuiet n p) e u (t .one .low) (t .one .high)) v (t .other .low) (t .other .high)
-
-      empty : (u v : ℕ) → Two n u v → waiting (s .history) u v ≡ 0
-      empty u v t =
-          let none : length (p .channel u v) ≡ 0 = ap length (is-empty (p .channel u v) (and-left (isEmpty (p .channel u v)) _ (at u v t))) in
-          omega (arith, g .told .counts u v)
-
-      paired : (u v : ℕ) → Two n u v → upIn (s .history) u v ≡ upIn (s .history) v u
-      paired u v t =
-          let same : upTo p u v ≡ upTo p v u = same-bool _ _ (and-right (isEmpty (p .channel u v)) _ (at u v t)) in
-          g .told .ups u v ∙ (same ∙ sym (g .told .ups v u))
 
   pub quiescent-quiet : Quiescent n (upIn (s .history)) (waiting (s .history)) → quiet n (s .network) ≡ true
   unfolding quiet nodeQuiet pairQuiet

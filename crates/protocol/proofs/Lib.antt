@@ -1,5 +1,5 @@
 -- Laws and theorems about the meaning; a file uses only those above it. Each says at its top what it shows and what it assumes.
--- Said, SoundStep, Locality, Leaders, SavesLaws, Runs, Cases and Theorems hold the results, the others lead to them.
+-- Said, SoundStep, Locality, Leaders, Groups, SavesLaws, LastSave, Runs, Cases and Theorems hold the results, the others lead to them.
 pub mod Said
 pub mod TestsLaws
 pub mod AllOf
@@ -25,7 +25,9 @@ pub mod Good
 pub mod SoundStep
 pub mod Locality
 pub mod Leaders
+pub mod Groups
 pub mod SavesLaws
+pub mod LastSave
 pub mod Runs
 pub mod Cases
 pub mod Theorems

@@ -1,5 +1,5 @@
--- The last save that wrote given bytes: equal bytes are told exactly, and the newest such save counts. What calls do to the saves and to the
--- history: an accepted save is the last one, bytes once saved are not forgotten, an accepted restore puts the history back. Assumes nothing.
+-- The last save that wrote given bytes: equal bytes are told exactly, and the newest such save counts. What each call does to the saves and to the
+-- history, whatever it is made on: accepted events enter, accepted saves are kept, an accepted restore puts the history back. Assumes nothing.
 use Prim.Native.Nat.{ℕ}
 use native.Mathlib.Omega.{arith}
 use mathlib.Core.Bool.{true}
@@ -8,7 +8,9 @@ use mathlib.Core.Path.{_≡_, refl, sym}
 use lib.Dec.{eqb}
 use borrow.Author.Tests.{eqb-true, eq-eqb, ne-eqb}
 use Rattle.height.proofs.OrderLaws.{clash, not-true-is-false}
-use Rattle.protocol.specs.Run.{Call, event, save, restore, Returned, Calls, Saved, RunState, Earlier, savedAt, sameBytes, lastSave, act}
+use Rattle.protocol.specs.History.{entry}
+use Rattle.protocol.specs.Run.{Call, event, save, restore, Returned, Calls, Saved, RunState, startOfRun, Earlier, savedAt, sameBytes, lastSave, act}
+use Rattle.protocol.specs.Step.{Event}
 use Rattle.protocol.proofs.AllOf.{AllOf, more}
 use Rattle.protocol.proofs.TestsLaws.{Choice, yes!, no!, choice, and-left, and-right, and-both}
 
@@ -94,3 +96,18 @@ module _ {A : Type 0} (calls : Calls A) (w : RunState A) where
 
   pub refused-history : (b : List ℕ) → (calls .resumed b (w .now) .number ≡ 0 → ⊥) → act calls w (restore b) .history ≡ w .history
   refused-history b d = rw (ne-eqb (calls .resumed b (w .now) .number) 0 d)
+
+  -- an accepted event enters the history with what was said; a refused one does not, nor does a save
+  pub event-enters : (m : ℕ) (e : Event) → calls .stepped m e (w .now) .said .number ≡ 0
+      → act calls w (event m e) .history ≡ entry e (calls .stepped m e (w .now) .said) ∷ w .history
+  event-enters m e zero! = rw (eq-eqb (calls .stepped m e (w .now) .said .number) 0 zero!)
+
+  pub event-refused : (m : ℕ) (e : Event) → (calls .stepped m e (w .now) .said .number ≡ 0 → ⊥) → act calls w (event m e) .history ≡ w .history
+  event-refused m e d = rw (ne-eqb (calls .stepped m e (w .now) .said .number) 0 d)
+
+  pub save-history : (m : ℕ) (out : List ℕ) → act calls w (save m out) .history ≡ w .history
+  save-history m out = refl
+
+-- a run starts with nothing behind it
+pub start-is : {A : Type 0} (a : A) → startOfRun a ≡ record { now = a; history = []; saves = [] }
+start-is a = refl

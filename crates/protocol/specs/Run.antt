@@ -56,7 +56,7 @@ sameBytes [] (y ∷ ys) = false
 sameBytes (x ∷ xs) [] = false
 sameBytes (x ∷ xs) (y ∷ ys) = eqb x y && sameBytes xs ys
 
--- the last save that wrote these bytes; of no restore that is allowed it is `never`
+-- the last save that wrote these bytes; of no restore that is allowed and accepted it is `never`
 pub data Earlier (A : Type 0) : Type 0 where
   never : Earlier A
   savedAt : Saved A → Earlier A

@@ -1,23 +1,14 @@
 -- Which lists of calls are allowed, at the tables: whatever was called, any event and any save may follow, and a restore of any bytes that it refuses.
 -- (And of the bytes that an accepted save put out: SavedComesBack.) Nothing is assumed of n.
 use Prim.Native.Nat.{ℕ}
-use mathlib.Core.Bool.{true}
 use mathlib.Core.List.{List, [], _∷_, _++_}
 use mathlib.Core.Path.{_≡_}
-use Rattle.network.specs.Check.{checked}
-use Rattle.network.specs.Fresh.{filled, freshOn}
 use Rattle.protocol.specs.Run.{Call, event, save, restore, startOfRun, Fair, fairEvent, fairSave, fairRefused, fairNil, fairCons}
 use Rattle.protocol.specs.Step.{Event}
 use Rattle.snapshot.specs.Restore.{restoreOn}
-use Rattle.tables.specs.Tables.{Tables, sized}
 use Rattle.runs.specs.OnTables.{tablesAfterAll, onTables, freshTables, after, Allowed}
 use Rattle.runs.proofs.Lists.{fair-append}
 use Rattle.runs.proofs.TablesRun.{now-after}
-
--- what a list starts from is what `fresh` leaves in tables of the lengths for n
-pub starts-fresh : (n : ℕ) (t : Tables) → sized n t ≡ true → freshOn n t ≡ filled (checked 0 0 0) (freshTables n)
-unfolding freshOn
-starts-fresh n t fit = rw fit
 
 pub none-allowed : (n : ℕ) → Allowed n []
 none-allowed n = fairNil

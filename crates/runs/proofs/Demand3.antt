@@ -1,25 +1,31 @@
 -- Demand 3, whole: one statement about a whole list of calls on lent tables of n nodes, from `fresh` (document 01, "Lists of calls").
 -- Calls are events, saves and restores with any numbers, refused ones among them; what each answers and leaves is its contract's. Assumes 1 ≤ n ≤ 16.
 use Prim.Native.Nat.{ℕ, _+_, _≤_}
-use mathlib.Core.List.{List, _∷_, _++_}
+use native.Mathlib.Omega.{arith}
+use mathlib.Core.List.{List, [], _∷_, _++_}
+use mathlib.Core.Logic.{_⊎_, inl, inr}
 use mathlib.Core.Path.{_≡_, sym, ap, _∙_}
 use lib.ListN.{length}
 use Rattle.election.specs.RunOn.{EventCall, tablesAfter as tablesAfterEvents, saidByTables}
 use Rattle.network.specs.Check.{checked}
-use Rattle.network.specs.Fresh.{Filled, filled}
+use Rattle.network.specs.Fresh.{Filled, filled, freshOn}
+use Rattle.network.proofs.CheckLaws.{sized-is}
 use Rattle.protocol.specs.Component.{Node, Quiescent, OneLeader}
 use Rattle.protocol.specs.History.{History, upIn, sentSince, receivedSince, waiting}
 use Rattle.protocol.specs.Network.{Network, upTo, own}
-use Rattle.protocol.specs.Run.{Call, restore, Saved, RunState, startOfRun, savedAt, lastSave, Fair, fairSaved, fairRefused}
+use Rattle.protocol.specs.Run.{Call, save, restore, Saved, RunState, startOfRun, Earlier, never, savedAt, lastSave, Fair, fairSaved, fairRefused}
+use Rattle.protocol.proofs.LastSave.{NoneWrote, Wrote, remembered}
 use Rattle.protocol.proofs.Runs.{stateOf, good-promise}
 use Rattle.protocol.proofs.SavesLaws.{restore-history}
+use Rattle.protocol.proofs.TestsLaws.{Choice, yes!, no!, choice}
 use Rattle.snapshot.specs.Restore.{restoreOn}
+use Rattle.snapshot.specs.Save.{saveOn}
 use Rattle.tables.specs.Load.{load}
-use Rattle.tables.specs.Tables.{Tables}
-use Rattle.runs.specs.OnTables.{tablesAfterAll, onTables, freshTables, then, after, Allowed}
-use Rattle.runs.proofs.Lists.{fair-first, fair-rest, fair-head}
+use Rattle.tables.specs.Tables.{Tables, sized}
+use Rattle.runs.specs.OnTables.{tablesAfterAll, putOut, onTables, freshTables, then, after, Allowed}
+use Rattle.runs.proofs.Lists.{perform-append, fair-first, fair-rest, fair-head}
 use Rattle.runs.proofs.Simulation.{last-from, restore-is, from-fresh}
-use Rattle.runs.proofs.TablesRun.{meantAfter, now-after, on-tables}
+use Rattle.runs.proofs.TablesRun.{meantAfter, now-after, now-behind, on-tables}
 
 -- ---- the statement
 
@@ -33,14 +39,27 @@ networkAt n cs = load n (tablesAt n cs)
 abbrev pub historyAfter : ℕ → List Call → History
 historyAfter n cs = after n cs .history
 
--- an accepted restore of the bytes b, behind the calls `before`, goes on as from the last save before it that wrote these bytes: the history is
+-- the last save of the calls cs that wrote the bytes b: it was accepted behind the calls `before`, put these bytes out,
+-- and no accepted save after it did
+pub record LastSave (n : ℕ) (cs : List Call) (b : List ℕ) : Type 0 where
+  pub before : List Call
+  pub rest : List Call
+  pub size : ℕ
+  pub room : List ℕ
+  pub list : cs ≡ before ++ (save size room ∷ rest)
+  pub accepted : saveOn size (tablesAt n before) room .said .check .number ≡ 0
+  pub bytes : putOut (saveOn size (tablesAt n before) room) ≡ b
+  pub no-later : (mid more : List Call) (m : ℕ) (out : List ℕ) → rest ≡ mid ++ (save m out ∷ more)
+      → saveOn m (tablesAt n (before ++ (save size room ∷ mid))) out .said .check .number ≡ 0
+      → putOut (saveOn m (tablesAt n (before ++ (save size room ∷ mid))) out) ≡ b → ⊥
+
+-- an accepted restore of the bytes b behind the calls cs goes on as from the last save of cs that wrote these bytes: the history is
 -- that of the save, and for every list of events, each with its own n, refused ones too, so are the answers, and at its end the tables
-pub record Resumed (n : ℕ) (before : List Call) (b : List ℕ) : Type 0 where
-  pub saved : Saved Tables
-  pub last : lastSave b (after n before .saves) ≡ savedAt saved
-  pub history : then (after n before) (restore b) .history ≡ saved .history
-  pub answers : (es : List EventCall) → saidByTables (restoreOn b (tablesAt n before) .after) es ≡ saidByTables (saved .at) es
-  pub tables : (es : List EventCall) → tablesAfterEvents (restoreOn b (tablesAt n before) .after) es ≡ tablesAfterEvents (saved .at) es
+pub record Resumed (n : ℕ) (cs : List Call) (b : List ℕ) : Type 0 where
+  pub last : LastSave n cs b
+  pub history : historyAfter n (cs ++ (restore b ∷ [])) ≡ historyAfter n (last .before)
+  pub answers : (es : List EventCall) → saidByTables (restoreOn b (tablesAt n cs) .after) es ≡ saidByTables (tablesAt n (last .before)) es
+  pub tables : (es : List EventCall) → tablesAfterEvents (restoreOn b (tablesAt n cs) .after) es ≡ tablesAfterEvents (tablesAt n (last .before)) es
 
 pub record Demand3 (n : ℕ) (cs : List Call) : Type 0 where
   -- (a) v is in N or F of u exactly when the last up or down of u, v in the history is an up,
@@ -58,33 +77,71 @@ pub record Demand3 (n : ℕ) (cs : List Call) : Type 0 where
 abbrev pub Statement : Type 0
 Statement = (n : ℕ) → 1 ≤ n → n ≤ 16 → (cs : List Call) → Allowed n cs → Demand3 n cs
 
+-- ---- the save that a run remembers
+
+-- a remembered save is the last one of the list that wrote its bytes, with the tables and the history then
+pub record Remembered (n : ℕ) (cs : List Call) (b : List ℕ) (s : Saved Tables) : Type 0 where
+  pub last : LastSave n cs b
+  pub is : s ≡ record { bytes = b; at = tablesAt n (last .before); history = historyAfter n (last .before) }
+
+pub remembers : (n : ℕ) (cs : List Call) (b : List ℕ) (s : Saved Tables) → lastSave b (after n cs .saves) ≡ savedAt s → Remembered n cs b s
+remembers n cs b s e = go (remembered onTables b start s cs e)
+  where
+    start : RunState Tables
+    start = startOfRun (freshTables n)
+
+    go : ((lastSave b (start .saves) ≡ savedAt s) × NoneWrote onTables b start cs) ⊎ Wrote onTables b start s cs → Remembered n cs b s
+    go (inl x) =
+        let l : _≡_ {A = Earlier Tables} never (savedAt s) = x .0 in
+        let z : _≡_ {A = ℕ} 0 1 = cc in
+        absurd (omega arith)
+    go (inr x) =
+        let now = now-after start (x .before) in
+        record {
+          last = record {
+            before = x .before;
+            rest = x .rest;
+            size = x .m;
+            room = x .out;
+            list = x .list;
+            accepted = rw now at (x .accepted);
+            bytes = rw now at (x .bytes);
+            no-later = λ mid more m out q z y.
+                let at = now-behind n (x .before) (save (x .m) (x .out)) mid in
+                x .no-later mid more m out q (rw at z) (rw at y);
+          };
+          is = rw now at (x .is);
+        }
+
 -- ---- the proof
 
 module _ (n : ℕ) (low : 1 ≤ n) (few : n ≤ 16) where
   -- a restore of the bytes of an earlier save says 0 and leaves the tables as they were at that save
-  pub put-back : (before : List Call) (b : List ℕ) (s : Saved Tables) → Allowed n before → lastSave b (after n before .saves) ≡ savedAt s
-      → restoreOn b (tablesAt n before) ≡ filled (checked 0 0 0) (s .at)
-  put-back before b s allowed e =
-      let v = meantAfter n before in
-      let sim = from-fresh n low few before allowed in
+  pub put-back : (cs : List Call) (b : List ℕ) (s : Saved Tables) → Allowed n cs → lastSave b (after n cs .saves) ≡ savedAt s
+      → restoreOn b (tablesAt n cs) ≡ filled (checked 0 0 0) (s .at)
+  put-back cs b s allowed e =
+      let v = meantAfter n cs in
+      let sim = from-fresh n low few cs allowed in
       let r = last-from n b (v .saves) s (ap (λ (w : RunState Tables). lastSave b (w .saves)) (sym (sim .run-is)) ∙ e) in
-      ap (restoreOn b) (on-tables n low few before allowed .tables-are)
+      ap (restoreOn b) (on-tables n low few cs allowed .tables-are)
       ∙ restore-is n low few v (sim .sane) b (r .0) (r .1)
       ∙ ap (λ (x : Saved Tables). filled (checked 0 0 0) (x .at)) (r .2)
 
-  accepted : (before : List Call) (b : List ℕ) → Allowed n before → Fair onTables (after n before) (restore b)
-      → restoreOn b (tablesAt n before) .said .number ≡ 0 → Resumed n before b
-  accepted before b allowed (fairSaved _ s e) zero! =
-      let back = put-back before b s allowed e in
-      let now = now-after (startOfRun (freshTables n)) before in
+  accepted : (cs : List Call) (b : List ℕ) → Allowed n cs → Fair onTables (after n cs) (restore b)
+      → restoreOn b (tablesAt n cs) .said .number ≡ 0 → Resumed n cs b
+  accepted cs b allowed (fairSaved _ s e) zero! =
+      let start = startOfRun (freshTables n) in
+      let r = remembers n cs b s e in
+      let back = put-back cs b s allowed e ∙ ap (λ (x : Saved Tables). filled (checked 0 0 0) (x .at)) (r .is) in
       record {
-        saved = s;
-        last = e;
-        history = restore-history onTables (after n before) b s e (rw now zero!);
+        last = r .last;
+        history =
+            ap (λ (w : RunState Tables). w .history) (perform-append onTables start cs (restore b ∷ []))
+            ∙ restore-history onTables (after n cs) b s e (rw (now-after start cs) zero!) ∙ ap (λ (x : Saved Tables). x .history) (r .is);
         answers = λ es. ap (λ (f : Filled). saidByTables (f .after) es) back;
         tables = λ es. ap (λ (f : Filled). tablesAfterEvents (f .after) es) back;
       }
-  accepted before b allowed (fairRefused _ d) zero! = absurd (d (rw (now-after (startOfRun (freshTables n)) before) zero!))
+  accepted cs b allowed (fairRefused _ d) zero! = absurd (d (rw (now-after (startOfRun (freshTables n)) cs) zero!))
 
 pub demand-3 : Statement
 demand-3 n low few cs allowed =
@@ -101,3 +158,13 @@ demand-3 n low few cs allowed =
           let more = fair-rest onTables (startOfRun (freshTables n)) before (restore b ∷ rest) whole in
           accepted n low few before b first (fair-head onTables (after n before) (restore b) rest more) zero!;
     }
+
+-- whatever n is handed to `fresh`: what it leaves, if it accepts, is where lists of calls start, and demand 3 holds of each that is allowed
+pub after-fresh : (n : ℕ) (t : Tables) → freshOn n t .said .number ≡ 0
+    → (freshOn n t .after ≡ freshTables n) × ((cs : List Call) → Allowed n cs → Demand3 n cs)
+unfolding freshOn
+after-fresh n t zero! = go (choice (sized n t)) zero!
+  where
+    go : Choice (sized n t) → freshOn n t .said .number ≡ 0 → (freshOn n t .after ≡ freshTables n) × ((cs : List Call) → Allowed n cs → Demand3 n cs)
+    go (yes! e) z = let size = sized-is n t e in (rw e, demand-3 n (size .low) (size .few))
+    go (no! e) z = let y : _≡_ {A = ℕ} 1 0 = rw e at z in absurd (omega arith)

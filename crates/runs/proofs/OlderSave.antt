@@ -1,11 +1,11 @@
--- A list of calls with an accepted restore of an older save behind a younger one, on the tables of two nodes: allowed, and computed call by call
--- from the contracts' definitions. So the hypotheses of demand 3 and of its part on restores have inhabitants. Assumes nothing.
+-- A list of calls with an accepted restore of an older save behind a younger one, on the tables of two nodes: allowed, computed call by call
+-- from the contracts' definitions, and quiet at its end. So the hypotheses of demand 3, (b) and (c) among them, have inhabitants. Assumes nothing.
 use Prim.Native.Nat.{ℕ}
 use native.Mathlib.Omega.{arith}
 use mathlib.Core.Bool.{true}
 use mathlib.Core.List.{List, [], _∷_, _++_, map}
 use mathlib.Core.Path.{_≡_, refl}
-use lib.ListN.{replicate}
+use lib.ListN.{set, replicate}
 use Rattle.bits.specs.Bits.{bits, number, unpacked, packed, field, spread, gathered}
 use Rattle.election.specs.StepOn.{stepAt, stepChecked, stepOn}
 use Rattle.height.specs.Height.{zeroLevel, levelKey, pairKey, heightKey}
@@ -20,13 +20,14 @@ use Rattle.network.specs.Check.{checked, place, faultInRow, faultFrom, firstFau
 use Rattle.nodeset.specs.NodeSet.{member, setOf, within}
 use Rattle.places.specs.Place.{ownPlace, viewPlace, channelPlace as channelPlaceHolds, placeIn}
 use Rattle.protocol.specs.Answer.{carriedOut, saidRefused}
-use Rattle.protocol.specs.Component.{Node, OneLeader, pairQuiet, nodeQuiet, quiet}
+use Rattle.protocol.specs.Component.{Node, Quiescent, OneLeader, pairQuiet, nodeQuiet, quiet}
 use Rattle.protocol.specs.Functions.{every, all, update}
 use Rattle.protocol.specs.Holds.{levelHolds, deltaHolds, pairHolds, heightHolds, messageHolds, notInBoth, setsHold}
-use Rattle.protocol.specs.Network.{upTo, own}
+use Rattle.protocol.specs.History.{Entry, entry, upIn, waiting}
+use Rattle.protocol.specs.Network.{own}
 use Rattle.protocol.specs.Refusal.{misnamed, late, hasRoom, crowded, returned, accepts, answer, next}
 use Rattle.protocol.specs.Rules.{absent, downRule, larger, largest, deltas, ofLevel, oneLevelRule, equalPairsRule, receiptRule}
-use Rattle.protocol.specs.Run.{Call, event, save, restore, Saved, RunState, startOfRun, fairSaved, fairRefused, fairNil, fairCons}
+use Rattle.protocol.specs.Run.{Call, event, save, restore, Saved, startOfRun}
 use Rattle.protocol.specs.Sink.{above, sink}
 use Rattle.protocol.specs.Step.{up, down, receive, carried, localUp, localDown, localIgnored, localTaken, post, commit, step}
 use Rattle.reading.specs.Examine.{afterWalk, examined}
@@ -41,9 +42,10 @@ use Rattle.tables.specs.Rows.{rowAt, rows}
 use Rattle.tables.specs.Tables.{Tables, sized}
 use Rattle.runs.specs.OnTables.{Reply, toEvent, toSave, toRestore, putOut, onTables, freshTables, after, Allowed}
 use Rattle.runs.specs.OnTables.{reply, tablesAfter, tablesAfterAll, replies}
-use Rattle.runs.proofs.Demand3.{tablesAt, networkAt, Resumed, demand-3}
+use Rattle.runs.proofs.AllowedLists.{refused-allowed}
+use Rattle.runs.proofs.Demand3.{tablesAt, networkAt, historyAfter, Resumed, Demand3, demand-3}
 use Rattle.runs.proofs.Lists.{fair-append, plain-fair}
-use Rattle.runs.proofs.ReadOff.{read-off}
+use Rattle.runs.proofs.ReadOff.{quiet-by-history}
 use Rattle.runs.proofs.SavedComesBack.{ComesBack, saved-comes-back}
 
 -- ---- the calls
@@ -78,12 +80,32 @@ younger =
     0 ∷ 0 ∷ 0 ∷ 4 ∷ 0 ∷ 0 ∷ 0 ∷ 0 ∷ 34 ∷ 0 ∷ 0 ∷ 0 ∷ 3 ∷ 0 ∷ 1 ∷ 0 ∷ 0 ∷ 0 ∷ 0 ∷ 0 ∷ 0 ∷ 0 ∷ 0 ∷ 0 ∷ 0 ∷ 0 ∷ 0 ∷ 0 ∷
     33 ∷ 0 ∷ 0 ∷ 0 ∷ 0 ∷ 0 ∷ 0 ∷ 4 ∷ 0 ∷ 0 ∷ 0 ∷ 0 ∷ 34 ∷ 0 ∷ []
 
+-- the older image with node 1 in its own N
+abbrev pub damaged : List ℕ
+damaged = set older 9 1
+
+-- up to the younger save and the end of the links; then no image at all and a damaged one, both refused
 abbrev pub first : List Call
 first = meet ++ (save 2 room ∷ (settle ++ (save 2 room ∷ separate)))
 
--- no image at all, refused; then the older save, and on from there
+abbrev pub behind : List Call
+behind = first ++ (restore [] ∷ restore damaged ∷ [])
+
+-- then the older save, and on from there
 abbrev pub calls : List Call
-calls = first ++ (restore [] ∷ restore older ∷ settle)
+calls = behind ++ (restore older ∷ settle)
+
+-- another list: two saves of the same bytes behind U 1 2 and U 2 1 in either order; then an event, and these bytes are restored
+abbrev pub blank : List ℕ
+blank = putOut (saveOn 2 (freshTables 2) room)
+
+abbrev pub both : List ℕ
+both = putOut (saveOn 2 (tablesAt 2 (event 2 (up 1 2) ∷ event 2 (up 2 1) ∷ [])) room)
+
+abbrev pub twice : List Call
+twice =
+    save 2 room ∷ event 2 (up 1 2) ∷ event 2 (up 2 1) ∷ save 2 room ∷ restore blank ∷ event 2 (up 2 1) ∷ event 2 (up 1 2) ∷ save 2 room
+    ∷ event 2 (receive 1 2) ∷ restore both ∷ []
 
 -- ---- what they answer
 
@@ -102,13 +124,9 @@ abbrev pub answers : List Reply
 answers =
     meeting ++ (toSave (saving (saidSaved 0 0 0 101) (older ++ replicate 19 0))
     ∷ (settling ++ (toSave (saving (saidSaved 0 0 0 69) (younger ++ replicate 51 0))
-    ∷ (separating ++ (toRestore (checked 10 0 0) ∷ toRestore (checked 0 0 0) ∷ settling)))))
+    ∷ (separating ++ (toRestore (checked 10 0 0) ∷ toRestore (checked 2 1 1) ∷ toRestore (checked 0 0 0) ∷ settling)))))
 
 -- ---- what is shown
-
--- the calls before the older save is taken back
-abbrev pub behind : List Call
-behind = first ++ (restore [] ∷ [])
 
 -- computed from the definitions of the contracts, call by call
 pub record Computed : Type 0 where
@@ -117,15 +135,24 @@ pub record Computed : Type 0 where
   pub saves-are : map (λ (s : Saved Tables). s .bytes) (after 2 behind .saves) ≡ younger ∷ older ∷ []
   pub put-out : putOut (saveOn 2 (tablesAt 2 meet) room) ≡ older
   pub accepted : saveOn 2 (tablesAt 2 meet) room .said .check .number ≡ 0
-  pub refused : restoreOn [] (after 2 first .now) .said .number ≡ 10
+  pub no-image : restoreOn [] (tablesAt 2 first) .said .number ≡ 10
+  pub at-fault : restoreOn damaged (tablesAt 2 (first ++ (restore [] ∷ []))) .said .number ≡ 2
+  -- the accepted events, newest first, each with what was said; those behind the older save are gone
+  pub history-is : historyAfter 2 calls
+      ≡ entry (receive 1 2) (carriedOut 81 0 0 zeroLevel) ∷ entry (receive 2 1) (carriedOut 81 0 0 zeroLevel)
+      ∷ entry (receive 2 1) (carriedOut 82 2 0 zeroLevel) ∷ entry (receive 1 2) (carriedOut 65 1 1 zeroLevel)
+      ∷ entry (up 2 1) (carriedOut 85 1 0 zeroLevel) ∷ entry (up 1 2) (carriedOut 85 2 0 zeroLevel) ∷ []
+  -- of the two saves that wrote the same bytes the last one counts
+  pub last-counts : map (λ (e : Entry). e .event) (historyAfter 2 twice) ≡ up 1 2 ∷ up 2 1 ∷ []
   pub ends-quiet : quiet 2 (networkAt 2 calls) ≡ true
 
--- and by the theorems: the list is allowed, the restore is accepted and goes on as the older save, and at the end one node leads
+-- and by the theorems: the list is allowed, the restore is accepted and goes on as the older save, and at the end the history is quiet and one node leads
 pub record TakenBack : Type 0 where
   pub allowed : Allowed 2 calls
   pub comes-back : ComesBack 2 (tablesAt 2 meet) older behind
   pub resumed : Resumed 2 behind older
-  pub one-leader : (u : ℕ) → Node 2 u → OneLeader 2 (upTo (networkAt 2 calls)) (own (networkAt 2 calls)) u
+  pub quiet-then : Quiescent 2 (upIn (historyAfter 2 calls)) (waiting (historyAfter 2 calls))
+  pub one-leader : (u : ℕ) → Node 2 u → OneLeader 2 (upIn (historyAfter 2 calls)) (own (networkAt 2 calls)) u
 
 -- ---- the proof
 
@@ -140,33 +167,47 @@ unfolding bits number unpacked packed field spread gathered stepAt stepChecked s
     localTaken post commit step afterWalk examined headerHolds headerOf channelStep onward steps channelsFromWalk channelsWalk walk endsAt
     restoreExamined restoreOf restoreHeaded restoreOn put saveChecked saveOn messageAt messagesAt queue allZero messageWords placeWords
     cellWords load tablesOf heightIn nodeWords rowAt rows sized reply tablesAfter tablesAfterAll replies nodePlace pairQuiet nodeQuiet quiet
-computed = record { answered = refl; saves-are = refl; put-out = refl; accepted = refl; refused = refl; ends-quiet = refl }
+computed = record {
+  answered = refl;
+  saves-are = refl;
+  put-out = refl;
+  accepted = refl;
+  no-image = refl;
+  at-fault = refl;
+  history-is = refl;
+  last-counts = refl;
+  ends-quiet = refl;
+}
 
-abbrev start : RunState Tables
-start = startOfRun (freshTables 2)
+first-allowed : Allowed 2 first
+unfolding all
+first-allowed = plain-fair onTables (startOfRun (freshTables 2)) first refl
 
 behind-allowed : Allowed 2 behind
-unfolding all
 behind-allowed =
-    fair-append onTables start first (restore [] ∷ []) (plain-fair onTables start first refl)
-    (fairCons (fairRefused [] (λ z. absurd (omega (arith, computed .refused, z)))) fairNil)
+    refused-allowed 2 (first ++ (restore [] ∷ []))
+    (refused-allowed 2 first first-allowed [] (λ z. absurd (omega (arith, computed .no-image, z)))) damaged
+    (λ z. absurd (omega (arith, computed .at-fault, z)))
 
 back : ComesBack 2 (tablesAt 2 meet) older behind
 back =
     rw (computed .put-out) at
-    (saved-comes-back 2 (omega arith) (omega arith) meet (settle ++ (save 2 room ∷ (separate ++ (restore [] ∷ [])))) 2 room behind-allowed
-    (computed .accepted))
+    (saved-comes-back 2 (omega arith) (omega arith) meet (settle ++ (save 2 room ∷ (separate ++ (restore [] ∷ restore damaged ∷ [])))) 2 room
+    behind-allowed (computed .accepted))
 
 calls-allowed : Allowed 2 calls
 unfolding all
 calls-allowed =
-    fair-append onTables start behind (restore older ∷ settle) behind-allowed
-    (fairCons (fairSaved older (back .saved) (back .last)) (plain-fair onTables _ settle refl))
+    fair-append onTables (startOfRun (freshTables 2)) (behind ++ (restore older ∷ [])) settle (back .allowed) (plain-fair onTables _ settle refl)
+
+demanded : Demand3 2 calls
+demanded = demand-3 2 (omega arith) (omega arith) calls calls-allowed
 
 pub taken-back : TakenBack
 taken-back = record {
   allowed = calls-allowed;
   comes-back = back;
-  resumed = demand-3 2 (omega arith) (omega arith) calls calls-allowed .resumed behind settle older refl (rw (back .restored));
-  one-leader = read-off 2 (omega arith) (omega arith) calls calls-allowed .one-leader (computed .ends-quiet);
+  resumed = demanded .resumed behind settle older refl (rw (back .restored));
+  quiet-then = quiet-by-history 2 calls demanded (computed .ends-quiet);
+  one-leader = demanded .one-leader (quiet-by-history 2 calls demanded (computed .ends-quiet));
 }

@@ -4,16 +4,15 @@ use Prim.Native.Nat.{ℕ, _≤_}
 use mathlib.Core.Bool.{true}
 use mathlib.Core.List.{List}
 use mathlib.Core.Path.{_≡_, sym, subst, fun-ext}
-use Rattle.protocol.specs.Component.{Node, OneLeader, quiet}
-use Rattle.protocol.specs.History.{State, upIn}
+use Rattle.protocol.specs.Component.{Node, Quiescent, OneLeader, quiet}
+use Rattle.protocol.specs.History.{upIn, waiting, Told}
 use Rattle.protocol.specs.Network.{Network, upTo, own}
 use Rattle.protocol.specs.Run.{Call}
-use Rattle.protocol.proofs.Good.{Good}
-use Rattle.protocol.proofs.Leaders.{quiet-leader, quiet-quiescent}
+use Rattle.protocol.proofs.Leaders.{quiet-quiescent}
 use Rattle.protocol.proofs.Runs.{stateOf}
 use Rattle.protocol.proofs.Theorems.{Steady, good-steady}
 use Rattle.runs.specs.OnTables.{Allowed}
-use Rattle.runs.proofs.Demand3.{networkAt}
+use Rattle.runs.proofs.Demand3.{networkAt, historyAfter, Demand3, demand-3}
 use Rattle.runs.proofs.Simulation.{from-fresh}
 use Rattle.runs.proofs.TablesRun.{meantAfter, on-tables}
 
@@ -27,18 +26,27 @@ pub record Settled (n : ℕ) (p : Network) : Type 0 where
 abbrev pub Statement : Type 0
 Statement = (n : ℕ) → 1 ≤ n → n ≤ 16 → (cs : List Call) → Allowed n cs → Settled n (networkAt n cs)
 
+-- ---- by demand 3 alone
+
+module _ (n : ℕ) (cs : List Call) (d : Demand3 n cs) where
+  told : Told (historyAfter n cs) (networkAt n cs)
+  told = record { ups = λ u v. sym (d .up-is u v); counts = d .waiting-is }
+
+  -- quiet, read off the tables, is quiet by the history
+  pub quiet-by-history : quiet n (networkAt n cs) ≡ true → Quiescent n (upIn (historyAfter n cs)) (waiting (historyAfter n cs))
+  quiet-by-history q = quiet-quiescent n (networkAt n cs) (historyAfter n cs) told q
+
+  pub quiet-led : quiet n (networkAt n cs) ≡ true → (u : ℕ) → Node n u → OneLeader n (upTo (networkAt n cs)) (own (networkAt n cs)) u
+  quiet-led q u node =
+      subst (λ ups. OneLeader n ups (own (networkAt n cs)) u) (fun-ext (λ a. fun-ext (λ b. sym (d .up-is a b))))
+      (d .one-leader (quiet-by-history q) u node)
+
 -- ---- the proof
 
-settled : (n : ℕ) (s : State) → Good n s → Settled n (s .network)
-settled n s g = record {
-  steady = good-steady n s g;
-  one-leader = λ q u a. subst (λ ups. OneLeader n ups (own (s .network)) u) ups (quiet-leader n s g (quiet-quiescent n s g q) u a);
-}
-  where
-    ups : upIn (s .history) ≡ upTo (s .network)
-    ups = fun-ext (λ a. fun-ext (λ b. g .told .ups a b))
-
 pub read-off : Statement
-read-off n low few cs allowed =
-    subst (Settled n) (sym (on-tables n low few cs allowed .network-is))
-    (settled n (stateOf (meantAfter n cs)) (from-fresh n low few cs allowed .sane .good))
+read-off n low few cs allowed = record {
+  steady =
+      subst (Steady n) (sym (on-tables n low few cs allowed .network-is))
+      (good-steady n (stateOf (meantAfter n cs)) (from-fresh n low few cs allowed .sane .good));
+  one-leader = quiet-led n cs (demand-3 n low few cs allowed);
+}

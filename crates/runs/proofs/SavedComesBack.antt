@@ -1,5 +1,5 @@
 -- What an accepted save put out comes back: whatever allowed calls follow, a restore of exactly these bytes is allowed, says 0, and leaves the
--- tables as they were at that save. Stated by the contracts' own definitions. Assumes 1 to 16 nodes; a list without restores is always allowed.
+-- tables as they were at that save. What each call says and leaves is by the contracts' own definitions. Assumes 1 to 16 nodes.
 use Prim.Native.Nat.{ℕ, _≤_}
 use mathlib.Core.List.{List, [], _∷_, _++_}
 use mathlib.Core.Path.{_≡_, refl, sym, ap, subst, _∙_}
@@ -8,6 +8,7 @@ use Rattle.network.specs.Fresh.{Filled, filled}
 use Rattle.protocol.specs.Network.{Network, fresh}
 use Rattle.protocol.specs.Run.{Call, save, restore, Saved, RunState, startOfRun, savedAt, lastSave, act, perform}
 use Rattle.protocol.specs.Run.{Fair, fairEvent, fairSave, fairSaved, fairRefused, AllFair, fairNil, fairCons}
+use Rattle.protocol.proofs.LastSave.{stays-last}
 use Rattle.protocol.proofs.SavesLaws.{save-last, not-forgotten}
 use Rattle.snapshot.specs.Restore.{restoreOn}
 use Rattle.snapshot.specs.Save.{saveOn}
@@ -19,7 +20,7 @@ use Rattle.runs.proofs.Demand3.{tablesAt, put-back}
 use Rattle.runs.proofs.ImageBack.{SaneRun}
 use Rattle.runs.proofs.Lists.{perform-append, fair-first, fair-rest, fair-append, fair-head, fair-tail}
 use Rattle.runs.proofs.Simulation.{Simulated, onto, last-from, restore-is, onto-call, fair-from, call-sane, onward, from-fresh}
-use Rattle.runs.proofs.TablesRun.{meantAfter, now-after}
+use Rattle.runs.proofs.TablesRun.{meantAfter, now-after, now-behind}
 
 -- ---- the statement
 
@@ -44,6 +45,15 @@ RightAfter = (n : ℕ) (before : List Call) (m : ℕ) (out : List ℕ) → saveO
     → lastSave (putOut (saveOn m (tablesAt n before) out)) (then (after n before) (save m out) .saves)
     ≡ savedAt (record { bytes = putOut (saveOn m (tablesAt n before) out); at = tablesAt n before; history = after n before .history })
 
+-- and it stays so where no accepted save of the further calls wrote them
+abbrev pub StaysLast : Type 0
+StaysLast = (n : ℕ) (before rest : List Call) (m : ℕ) (out : List ℕ) → saveOn m (tablesAt n before) out .said .check .number ≡ 0
+    → ((mid more : List Call) (k : ℕ) (to : List ℕ) → rest ≡ mid ++ (save k to ∷ more)
+    → saveOn k (tablesAt n (before ++ (save m out ∷ mid))) to .said .check .number ≡ 0
+    → putOut (saveOn k (tablesAt n (before ++ (save m out ∷ mid))) to) ≡ putOut (saveOn m (tablesAt n before) out) → ⊥)
+    → lastSave (putOut (saveOn m (tablesAt n before) out)) (after n (before ++ (save m out ∷ rest)) .saves)
+    ≡ savedAt (record { bytes = putOut (saveOn m (tablesAt n before) out); at = tablesAt n before; history = after n before .history })
+
 -- ---- the proof
 
 -- the bytes b are those of a save made on the tables q
@@ -59,6 +69,14 @@ right-after n before m out zero! = go (after n before) (tablesAt n before) (now-
         → lastSave (putOut (saveOn m t out)) (then w (save m out) .saves)
         ≡ savedAt (record { bytes = putOut (saveOn m t out); at = t; history = w .history })
     go w t e z = rw (← e) (save-last onTables w m out (rw (← e) at z))
+
+pub stays-the-last : StaysLast
+stays-the-last n before rest m out zero! other =
+    let b = putOut (saveOn m (tablesAt n before) out) in
+    let now = now-behind n before (save m out) in
+    ap (λ (u : RunState Tables). lastSave b (u .saves)) (perform-append onTables (startOfRun (freshTables n)) before (save m out ∷ rest))
+    ∙ stays-last onTables b (then (after n before) (save m out)) rest (λ mid more k to e z same. other mid more k to e (rw (now mid) at z) (rw (now mid) at same))
+    ∙ right-after n before m out zero!
 
 module _ (n : ℕ) (low : 1 ≤ n) (few : n ≤ 16) where
   -- what a restore of recorded bytes does

@@ -15,7 +15,7 @@ use Rattle.network.proofs.CheckLaws.{check-sizes}
 use Rattle.network.proofs.SoundNetworks.{sound-check}
 use Rattle.protocol.specs.History.{advance}
 use Rattle.protocol.specs.Network.{Network, fresh}
-use Rattle.protocol.specs.Run.{Call, event, save, restore, Returned, Saved, RunState, startOfRun, sameBytes, Earlier, never, savedAt, lastSave, historyAt}
+use Rattle.protocol.specs.Run.{Call, event, save, restore, Returned, Saved, RunState, startOfRun, sameBytes, Earlier, never, savedAt, lastSave}
 use Rattle.protocol.specs.Run.{steppedTo, savedTo, act, perform, Fair, fairEvent, fairSave, fairSaved, fairRefused, AllFair}
 use Rattle.protocol.specs.Step.{Event}
 use Rattle.protocol.proofs.Holding.{sound-holds}
@@ -65,10 +65,6 @@ module _ (n : ℕ) where
           → (r : Saved Network) × (lastSave b ss ≡ savedAt r) × (ontoSave r ≡ s)
       go never q z = let y : _≡_ {A = ℕ} 0 1 = cc in absurd (omega arith)
       go (savedAt r) q z = (r, q, cc)
-
-  history-onto : (x : Earlier Network) → historyAt (ontoEarlier x) ≡ historyAt x
-  history-onto never = refl
-  history-onto (savedAt s) = refl
 
 -- ---- one call
 
@@ -164,7 +160,7 @@ module _ (n : ℕ) (low : 1 ≤ n) (few : n ≤ 16) where
   pub call-sane : (w : RunState Network) (c : Call) → SaneRun n low few w → Fair (byMeaning n) w c → SaneRun n low few (act (byMeaning n) w c)
   call-sane w c sane f = act-sane _ _ n (ImageOf n) (writes n low few) (reads n low few) (kept n low few) w c sane f
 
-  -- what is left on tables is fair for the calls that follow
+  -- calls that are fair on tables stay so behind the first of them, by the meaning
   pub onward : (w : RunState Network) → SaneRun n low few w → (c : Call) (cs : List Call) → AllFair onTables (onto n w) (c ∷ cs)
       → AllFair onTables (onto n (act (byMeaning n) w c)) cs
   onward w sane c cs fs =

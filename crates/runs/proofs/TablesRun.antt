@@ -1,7 +1,7 @@
 -- The same calls on lent tables and by the meaning: after every allowed list from `fresh` the replies, with the bytes that saves put out,
 -- and the tables are those of the meaning; and the tables of the run are those that the calls leave one after the other. Assumes 1 to 16 nodes.
 use Prim.Native.Nat.{ℕ, _≤_}
-use mathlib.Core.List.{List, [], _∷_}
+use mathlib.Core.List.{List, [], _∷_, _++_}
 use mathlib.Core.Path.{_≡_, refl, sym, ap, ap₂, _∙_}
 use Rattle.election.specs.StepOn.{Outcome}
 use Rattle.protocol.specs.Network.{Network, fresh}
@@ -11,7 +11,7 @@ use Rattle.tables.specs.Tables.{Tables}
 use Rattle.runs.specs.ByMeaning.{byMeaning, replyTo, repliesTo}
 use Rattle.runs.specs.OnTables.{Reply, toEvent, toSave, reply, tablesAfter, tablesAfterAll, replies, onTables, freshTables, then, after, Allowed}
 use Rattle.runs.proofs.ImageBack.{SaneRun}
-use Rattle.runs.proofs.Lists.{fair-head}
+use Rattle.runs.proofs.Lists.{perform-append, fair-head}
 use Rattle.runs.proofs.Simulation.{onto, own-back, event-is, save-is, onto-call, fair-from, call-sane, onward, fresh-sane, from-fresh}
 
 -- ---- the statement
@@ -24,7 +24,6 @@ pub record OnTables (n : ℕ) (cs : List Call) : Type 0 where
   pub replies-are : replies (freshTables n) cs ≡ repliesTo n (startOfRun fresh) cs
   pub tables-are : tablesAfterAll (freshTables n) cs ≡ tablesOf n (meantAfter n cs .now)
   pub network-is : load n (tablesAfterAll (freshTables n) cs) ≡ meantAfter n cs .now
-  pub now-is : after n cs .now ≡ tablesAfterAll (freshTables n) cs
   pub history-is : after n cs .history ≡ meantAfter n cs .history
 
 abbrev pub Statement : Type 0
@@ -42,6 +41,13 @@ pub now-after : (w : RunState Tables) (cs : List Call) → perform onTables w cs
 unfolding tablesAfterAll
 now-after w [] = refl
 now-after w (c ∷ cs) = now-after (then w c) cs ∙ ap (λ (t : Tables). tablesAfterAll t cs) (now-one w c)
+
+-- behind a list, a call, and further calls
+pub now-behind : (n : ℕ) (cs : List Call) (c : Call) (ds : List Call)
+    → perform onTables (then (after n cs) c) ds .now ≡ tablesAfterAll (freshTables n) (cs ++ (c ∷ ds))
+now-behind n cs c ds =
+    ap (λ (w : RunState Tables). w .now) (sym (perform-append onTables (startOfRun (freshTables n)) cs (c ∷ ds)))
+    ∙ now-after (startOfRun (freshTables n)) (cs ++ (c ∷ ds))
 
 -- ---- the replies
 
@@ -66,13 +72,11 @@ module _ (n : ℕ) (low : 1 ≤ n) (few : n ≤ 16) where
 pub on-tables : Statement
 on-tables n low few cs allowed =
     let s = from-fresh n low few cs allowed in
-    let now-is : after n cs .now ≡ tablesAfterAll (freshTables n) cs = now-after (startOfRun (freshTables n)) cs in
     let tables-are : tablesAfterAll (freshTables n) cs ≡ tablesOf n (meantAfter n cs .now)
-    = sym now-is ∙ ap (λ (v : RunState Tables). v .now) (s .run-is) in
+    = sym (now-after (startOfRun (freshTables n)) cs) ∙ ap (λ (v : RunState Tables). v .now) (s .run-is) in
     record {
       replies-are = replies-from n low few (startOfRun fresh) cs (fresh-sane n low few) allowed;
       tables-are = tables-are;
       network-is = ap (load n) tables-are ∙ own-back n low few (meantAfter n cs) (s .sane);
-      now-is = now-is;
       history-is = ap (λ (v : RunState Tables). v .history) (s .run-is);
     }

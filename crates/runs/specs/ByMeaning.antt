@@ -1,5 +1,5 @@
--- The same lists of calls on a network of n nodes, by the meaning alone: what each call answers, and the network after it.
--- A save puts out the network's image; a restore is what it does to the network's tables.
+-- The same lists of calls on a network of n nodes: events and saves by the meaning, a restore by what it does to the network's tables.
+-- A means of proof, which TablesRun compares with the calls on tables; demand 3 does not cite it.
 use Prim.Native.Nat.{ℕ}
 use mathlib.Core.Bool.{cond}
 use mathlib.Core.List.{List, [], _∷_}
