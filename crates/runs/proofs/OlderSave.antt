@@ -144,6 +144,8 @@ pub record Computed : Type 0 where
       ∷ entry (up 2 1) (carriedOut 85 1 0 zeroLevel) ∷ entry (up 1 2) (carriedOut 85 2 0 zeroLevel) ∷ []
   -- of the two saves that wrote the same bytes the last one counts
   pub last-counts : map (λ (e : Entry). e .event) (historyAfter 2 twice) ≡ up 1 2 ∷ up 2 1 ∷ []
+  -- at the end it is the network of the younger save again, and quiet
+  pub ends-as-younger : putOut (saveOn 2 (tablesAt 2 calls) room) ≡ younger
   pub ends-quiet : quiet 2 (networkAt 2 calls) ≡ true
 
 -- and by the theorems: the list is allowed, the restore is accepted and goes on as the older save, and at the end the history is quiet and one node leads
@@ -176,6 +178,7 @@ computed = record {
   at-fault = refl;
   history-is = refl;
   last-counts = refl;
+  ends-as-younger = refl;
   ends-quiet = refl;
 }
 

@@ -75,7 +75,8 @@ stays-the-last n before rest m out zero! other =
     let b = putOut (saveOn m (tablesAt n before) out) in
     let now = now-behind n before (save m out) in
     ap (λ (u : RunState Tables). lastSave b (u .saves)) (perform-append onTables (startOfRun (freshTables n)) before (save m out ∷ rest))
-    ∙ stays-last onTables b (then (after n before) (save m out)) rest (λ mid more k to e z same. other mid more k to e (rw (now mid) at z) (rw (now mid) at same))
+    ∙ stays-last onTables b (then (after n before) (save m out)) rest (λ mid more k to e z same.
+    other mid more k to e (rw (now mid) at z) (rw (now mid) at same))
     ∙ right-after n before m out zero!
 
 module _ (n : ℕ) (low : 1 ≤ n) (few : n ≤ 16) where
