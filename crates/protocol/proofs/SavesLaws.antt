@@ -2,14 +2,14 @@
 -- history, whatever it is made on: accepted events enter, accepted saves are kept, an accepted restore puts the history back. Assumes nothing.
 use Prim.Native.Nat.{ℕ}
 use native.Mathlib.Omega.{arith}
-use mathlib.Core.Bool.{true}
+use mathlib.Core.Bool.{true, cond}
 use mathlib.Core.List.{List, [], _∷_}
-use mathlib.Core.Path.{_≡_, refl, sym}
+use mathlib.Core.Path.{_≡_, refl, sym, ap, _∙_}
 use lib.Dec.{eqb}
 use borrow.Author.Tests.{eqb-true, eq-eqb, ne-eqb}
 use Rattle.height.proofs.OrderLaws.{clash, not-true-is-false}
 use Rattle.protocol.specs.History.{entry}
-use Rattle.protocol.specs.Run.{Call, event, save, restore, Returned, Calls, Saved, RunState, startOfRun, Earlier, savedAt, sameBytes, lastSave, act}
+use Rattle.protocol.specs.Run.{Call, event, save, restore, Returned, Calls, Saved, RunState, startOfRun, Earlier, savedAt, sameBytes, lastSave, historyAt, act}
 use Rattle.protocol.specs.Step.{Event}
 use Rattle.protocol.proofs.AllOf.{AllOf, more}
 use Rattle.protocol.proofs.TestsLaws.{Choice, yes!, no!, choice, and-left, and-right, and-both}
@@ -92,7 +92,8 @@ module _ {A : Type 0} (calls : Calls A) (w : RunState A) where
   -- an accepted restore puts back the history of the last save that wrote its bytes; a refused one leaves it
   pub restore-history : (b : List ℕ) (s : Saved A) → lastSave b (w .saves) ≡ savedAt s → calls .resumed b (w .now) .number ≡ 0
       → act calls w (restore b) .history ≡ s .history
-  restore-history b s l zero! = rw (eq-eqb (calls .resumed b (w .now) .number) 0 zero!, l)
+  restore-history b s l zero! =
+      ap (λ t. cond t (historyAt (lastSave b (w .saves))) (w .history)) (eq-eqb (calls .resumed b (w .now) .number) 0 zero!) ∙ ap historyAt l
 
   pub refused-history : (b : List ℕ) → (calls .resumed b (w .now) .number ≡ 0 → ⊥) → act calls w (restore b) .history ≡ w .history
   refused-history b d = rw (ne-eqb (calls .resumed b (w .now) .number) 0 d)

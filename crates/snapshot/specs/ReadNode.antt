@@ -62,6 +62,7 @@ nodePlaced h n l k place row =
 unfoldable pub nodeExamined : ℕ → ℕ → List ℕ → ℕ → ℕ → List ℕ → SaidCheck → Looked
 nodeExamined h n l k place row c = cond (eqb (c .number) 0) (nodePlaced h n l k place row) (looked (refusedNode c) row)
 
+-- 1 for a row not of n heights, else the checks of the whole image
 unfoldable pub nodeSized : ℕ → ℕ → List ℕ → ℕ → ℕ → List ℕ → Looked
 nodeSized h n l k place row =
     cond (eqb (length row) (n * 7)) (nodeExamined h n l k place row (examined 32 16 n l)) (looked (refusedNode (checked 1 0 0)) row)
