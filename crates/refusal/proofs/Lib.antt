@@ -1,0 +1,2 @@
+-- Laws of the reasons and their numbers.
+pub mod RefusalLaws

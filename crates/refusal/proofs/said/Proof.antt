@@ -1,0 +1,23 @@
+-- `refusal::said` meets its contract: 2 with its pair, and every other.
+use borrow.Author.Needs.{needs}
+use Rattle.refusal.proofs.RefusalLaws.{with-pair, pairless}
+use Rattle.refusal.proofs.said.Statement.{statement}
+use Rattle.refusal.proofs.said.Tie as tie
+use Rattle.refusal.proofs.said.Reads as reads
+use Rattle.refusal.proofs.said.Lts as lts
+use Rattle.refusal.proofs.number.Reads as number-reads
+
+number-requires : tie.Need-number-requires
+number-requires c κs = search needs
+
+enum-known-reason : tie.Need-enum-known-reason
+enum-known-reason c = search needs
+
+returns : tie.Need-returns
+returns c = with-pair _ _ (c .before .before .before .number .ensures) (c .before .reason .given .1)
+
+returns-2 : tie.Need-returns-2
+returns-2 c = pairless (c .before .before .args .reason) _ (c .before .number .ensures) (c .match .keys2)
+
+pub said-spec : {M : Type 1} → statement M
+said-spec = tie.close (tie.spec number-requires enum-known-reason returns returns-2)

@@ -1,0 +1,23 @@
+-- What a call says and what it leaves, for every call alike.
+-- A refused call leaves what was lent as it was: each call's own definition says so.
+use Rattle.refusal.specs.Refusal.{why}
+use Rattle.refusal.specs.declared.Why.{Why}
+
+-- what is said, and what is lent afterwards
+pub record Outcome (S L : Type 0) : Type 0 where
+  pub said : S
+  pub after : L
+
+abbrev pub outcome : {S L : Type 0} → S → L → Outcome S L
+outcome s l = record { said = s; after = l }
+
+-- why a call is refused (0 0 0: it is not), and its value; a refused call has the value that stands for none
+pub record Answered (A : Type 0) : Type 0 where
+  pub why : Why
+  pub value : A
+
+abbrev pub accepted : {A : Type 0} → A → Answered A
+accepted v = record { why = why 0 0 0; value = v }
+
+abbrev pub refusedWith : {A : Type 0} → A → Why → Answered A
+refusedWith none w = record { why = w; value = none }
