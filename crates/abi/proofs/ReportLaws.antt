@@ -7,24 +7,23 @@ use denote.Enum.Declared.{tagOf}
 use types.Run.{OneOf, miss}
 use Rattle.height.specs.Height.{zeroLevel}
 use Rattle.height.specs.declared.ReferenceLevel.{ReferenceLevel}
-use Rattle.network.specs.Check.{checked}
+use Rattle.lent.specs.Check.{checked}
 use Rattle.protocol.specs.Answer.{carriedOut, saidRule, saidRefused, saidWhy}
 use Rattle.protocol.specs.declared.Refusal.{Refusal}
-use Rattle.protocol.specs.declared.Refusal.the-variants.{Sizes, Fault, NodeNumber, AlreadyUp, AlreadyDown}
-use Rattle.protocol.specs.declared.Refusal.the-variants.{NoMessage, ClockEnd, DeltaEnd, ChannelFull}
+use Rattle.protocol.specs.declared.Refusal.the-variants.{Sizes, Fault, NodeNumber, AlreadyUp, AlreadyDown, NoMessage, ClockEnd, DeltaEnd, ChannelFull}
 use Rattle.protocol.specs.declared.Rule.{Rule}
 use Rattle.protocol.specs.declared.Rule.the-variants.{ChannelUp, ElectSelf, StartNewRefLevel, NoChange, Ignored}
 use Rattle.protocol.specs.declared.Rule.the-variants.{ReflectRefLevel, PropagateLargestRefLevel, AdoptLpIfPriority, Reply}
 use Rattle.protocol.proofs.Refusal as refusal
 use Rattle.protocol.proofs.Rule as rules
-use Rattle.snapshot.specs.ReadNode.{refusedNode, saidNode}
-use Rattle.snapshot.specs.Restore.{saidRestore}
-use Rattle.snapshot.specs.declared.NodeRead.{NodeRead}
-use Rattle.snapshot.specs.declared.NodeRead.the-variants as node
-use Rattle.snapshot.specs.declared.Restored.{Restored}
-use Rattle.snapshot.specs.declared.Restored.the-variants as restored
-use Rattle.snapshot.proofs.NodeRead as nodes
-use Rattle.snapshot.proofs.Restored as restores
+use Rattle.image_snapshot.specs.ReadNode.{refusedNode, saidNode}
+use Rattle.image_snapshot.specs.Restore.{saidRestore}
+use Rattle.image_snapshot.specs.declared.NodeRead.{NodeRead}
+use Rattle.image_snapshot.specs.declared.NodeRead.the-variants as node
+use Rattle.image_snapshot.specs.declared.Restored.{Restored}
+use Rattle.image_snapshot.specs.declared.Restored.the-variants as restored
+use Rattle.image_snapshot.proofs.NodeRead as nodes
+use Rattle.image_snapshot.proofs.Restored as restores
 
 -- ---- events
 

@@ -10,19 +10,19 @@ use borrow.Author.Tests.{le-leb}
 use lib.ListN.{length, length-append}
 use Rattle.image.specs.Image.{image}
 use Rattle.image.specs.Widths.{messageWidth, heightWidth, nodeWidth}
-use Rattle.network.specs.Check.{checkOn}
-use Rattle.network.proofs.SoundTables.{Words, sound-fits}
-use Rattle.protocol.specs.Component.{Node}
-use Rattle.protocol.proofs.TestsLaws.{equal?}
-use Rattle.snapshot.specs.Save.{put, saveChecked, saveOn}
+use Rattle.lent.specs.Check.{checkOn}
+use Rattle.lent.proofs.SoundTables.{Words, sound-fits}
+use Rattle.protocol.specs.Network.{Node}
+use Rattle.basics.proofs.Tests.{equal?}
+use Rattle.image_snapshot.specs.Save.{put, saveChecked, saveOn}
 use Rattle.tables.specs.Cell.{count}
 use Rattle.tables.specs.Fit.{TablesFit}
 use Rattle.tables.specs.Load.{load}
 use Rattle.tables.specs.Rows.{rows}
 use Rattle.tables.specs.Tables.{Tables, channelOf}
-use Rattle.writing.specs.Words.{cellBitsAt, cellsFromBits, cellsBits}
-use Rattle.writing.proofs.ImageLaws.{depth-16, counts, length-image}
-use Rattle.writing.proofs.LengthLaws.{own-none, length-cell, rows-le}
+use Rattle.image_writing.specs.Words.{cellBitsAt, cellsFromBits, cellsBits}
+use Rattle.image_writing.proofs.ImageLaws.{depth-16, counts, length-image}
+use Rattle.image_writing.proofs.LengthLaws.{own-none, length-cell, rows-le}
 use Rattle.abi.specs.Sizes.{imageLength}
 
 -- ---- the channels

@@ -5,8 +5,8 @@ use native.Mathlib.Nat.{mul-le-mul}
 use native.Mathlib.Omega.{arith}
 use mathlib.Core.Bool.{Bool, true}
 use mathlib.Core.Path.{_≡_, sym, _∙_}
-use Rattle.protocol.specs.Component.{Node}
-use Rattle.protocol.proofs.TestsLaws.{is-node}
+use Rattle.protocol.specs.Network.{Node}
+use Rattle.protocol.proofs.NodeLaws.{is-node}
 use Rattle.abi.specs.Sizes.{isSize}
 
 pub size-of : (n : ℕ) {r : Bool} → r ≡ isSize n → r ≡ true → Node 16 n

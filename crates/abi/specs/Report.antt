@@ -1,9 +1,9 @@
 -- The structs of include/election.h, read as the records in which answers are said (crates protocol, network, snapshot).
 -- Field by field; `sent` of an event's answer is not in its record: it is the ones of the set.
-use Rattle.network.specs.Check.{SaidCheck, checked}
+use Rattle.lent.specs.Check.{SaidCheck, checked}
 use Rattle.protocol.specs.Answer.{Said}
-use Rattle.snapshot.specs.ReadNode.{SaidNode}
-use Rattle.snapshot.specs.Save.{SaidSave, saidSaved}
+use Rattle.image_snapshot.specs.ReadNode.{SaidNode}
+use Rattle.image_snapshot.specs.Save.{SaidSave, saidSaved}
 use Rattle.abi.specs.declared.AnswerReport.{AnswerReport}
 use Rattle.abi.specs.declared.CheckReport.{CheckReport}
 use Rattle.abi.specs.declared.NodeReport.{NodeReport}

@@ -3,13 +3,13 @@
 ghost use mathlib.Core.Path.{_≡_};
 ghost use lib.Count.{ones};
 ghost use Rattle.election.specs.StepOn.{outcome, stepOn};
-ghost use Rattle.network.specs.Check.{checkOn};
-ghost use Rattle.network.specs.Fresh.{filled, freshOn};
+ghost use Rattle.lent.specs.Check.{checkOn};
+ghost use Rattle.lent.specs.Fresh.{filled, freshOn};
 ghost use Rattle.protocol.specs.Step.{up, down, receive};
-ghost use Rattle.snapshot.specs.ReadNode.{looked, readNodeOn};
-ghost use Rattle.snapshot.specs.Restore.{restoreOn};
-ghost use Rattle.snapshot.specs.Save.{saving, saveOn};
-ghost use Rattle.tables.specs.Tables.{before, after};
+ghost use Rattle.image_snapshot.specs.ReadNode.{looked, readNodeOn};
+ghost use Rattle.image_snapshot.specs.Restore.{restoreOn};
+ghost use Rattle.image_snapshot.specs.Save.{saving, saveOn};
+ghost use Rattle.tables.specs.Tables.{atEntry, atExit};
 ghost use Rattle.abi.specs.Report.{saidReport, saidCheckReport, saidSaveReport, saidNodeReport};
 ghost use Rattle.abi.specs.Sizes.{isSize, nodesLength, channelsLength, rowLength, imageLength};
 
@@ -121,17 +121,17 @@ pub extern "C" fn election_image_len(n: u32) -> usize
 // The fresh network of n nodes.
 #[no_mangle]
 pub extern "C" fn election_fresh(n: u32, nodes: &mut [u32], channels: &mut [u32]) -> CheckReport
-    ensures { λ r. ⌜ filled (saidCheckReport r) (after nodes channels) ≡ freshOn n (before nodes channels) ⌝ }
+    ensures { λ r. ⌜ filled (saidCheckReport r) (atExit nodes channels) ≡ freshOn n (atEntry nodes channels) ⌝ }
 {
-    reports::of_check(network::fresh(n, nodes, channels))
+    reports::of_check(lent::fresh(n, nodes, channels))
 }
 
 // Refusals 1 and 2.
 #[no_mangle]
 pub extern "C" fn election_check(n: u32, nodes: &[u32], channels: &[u32]) -> CheckReport
-    ensures { λ r. ⌜ saidCheckReport r ≡ checkOn n (before nodes channels) ⌝ }
+    ensures { λ r. ⌜ saidCheckReport r ≡ checkOn n (atEntry nodes channels) ⌝ }
 {
-    reports::of_check(network::check(n, nodes, channels))
+    reports::of_check(lent::check(n, nodes, channels))
 }
 
 // ---- events
@@ -145,7 +145,7 @@ pub extern "C" fn election_up(
     nodes: &mut [u32],
     channels: &mut [u32],
 ) -> AnswerReport
-    ensures { λ r. ⌜ outcome (saidReport r) (after nodes channels) ≡ stepOn n (up u v) (before nodes channels) ⌝ }
+    ensures { λ r. ⌜ outcome (saidReport r) (atExit nodes channels) ≡ stepOn n (up u v) (atEntry nodes channels) ⌝ }
     ensures { λ r. ⌜ r .sent ≡ ones (r .«sent_to») ⌝ }
 {
     reports::of_answer(election::up(n, u, v, nodes, channels))
@@ -160,7 +160,7 @@ pub extern "C" fn election_down(
     nodes: &mut [u32],
     channels: &mut [u32],
 ) -> AnswerReport
-    ensures { λ r. ⌜ outcome (saidReport r) (after nodes channels) ≡ stepOn n (down u v) (before nodes channels) ⌝ }
+    ensures { λ r. ⌜ outcome (saidReport r) (atExit nodes channels) ≡ stepOn n (down u v) (atEntry nodes channels) ⌝ }
     ensures { λ r. ⌜ r .sent ≡ ones (r .«sent_to») ⌝ }
 {
     reports::of_answer(election::down(n, u, v, nodes, channels))
@@ -175,7 +175,7 @@ pub extern "C" fn election_receive(
     nodes: &mut [u32],
     channels: &mut [u32],
 ) -> AnswerReport
-    ensures { λ r. ⌜ outcome (saidReport r) (after nodes channels) ≡ stepOn n (receive from to) (before nodes channels) ⌝ }
+    ensures { λ r. ⌜ outcome (saidReport r) (atExit nodes channels) ≡ stepOn n (receive from to) (atEntry nodes channels) ⌝ }
     ensures { λ r. ⌜ r .sent ≡ ones (r .«sent_to») ⌝ }
 {
     reports::of_answer(election::receive(n, from, to, nodes, channels))
@@ -191,9 +191,9 @@ pub extern "C" fn election_save(
     channels: &[u32],
     out: &mut [u8],
 ) -> SaveReport
-    ensures { λ r. ⌜ saving (saidSaveReport r) (now (out .exit)) ≡ saveOn n (before nodes channels) (now (out .entry)) ⌝ }
+    ensures { λ r. ⌜ saving (saidSaveReport r) (now (out .exit)) ≡ saveOn n (atEntry nodes channels) (now (out .entry)) ⌝ }
 {
-    reports::of_save(snapshot::save(n, nodes, channels, out))
+    reports::of_save(image_snapshot::save(n, nodes, channels, out))
 }
 
 // The network of an image goes into the tables.
@@ -203,9 +203,9 @@ pub extern "C" fn election_restore(
     nodes: &mut [u32],
     channels: &mut [u32],
 ) -> CheckReport
-    ensures { λ r. ⌜ filled (saidCheckReport r) (after nodes channels) ≡ restoreOn (now (image .entry)) (before nodes channels) ⌝ }
+    ensures { λ r. ⌜ filled (saidCheckReport r) (atExit nodes channels) ≡ restoreOn (now (image .entry)) (atEntry nodes channels) ⌝ }
 {
-    reports::of_restore(snapshot::restore(image, nodes, channels))
+    reports::of_restore(image_snapshot::restore(image, nodes, channels))
 }
 
 // Node k of an image, where its record is said to start: the heights go into `row`.
@@ -218,5 +218,5 @@ pub extern "C" fn election_read_node(
 ) -> NodeReport
     ensures { λ r. ⌜ looked (saidNodeReport r) (now (row .exit)) ≡ readNodeOn (now (image .entry)) k place (now (row .entry)) ⌝ }
 {
-    reports::of_node(snapshot::read_node(image, k, place, row))
+    reports::of_node(image_snapshot::read_node(image, k, place, row))
 }

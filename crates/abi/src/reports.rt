@@ -3,12 +3,12 @@
 ghost use mathlib.Core.Path.{_≡_};
 ghost use lib.Count.{ones};
 ghost use Rattle.height.specs.Height.{zeroLevel};
-ghost use Rattle.network.specs.Check.{saidCheck, checked};
+ghost use Rattle.lent.specs.Check.{saidCheck, checked};
 ghost use Rattle.protocol.specs.Answer.{said, saidRule, saidWhy, carriedOut, saidRefused};
-ghost use Rattle.snapshot.specs.ReadNode.{saidNode, refusedNode};
-ghost use Rattle.snapshot.specs.Restore.{saidRestore};
-ghost use Rattle.snapshot.specs.Save.{saidSave, saidSaved};
-ghost use Rattle.snapshot.specs.declared.NodeRead.the-variants.{Found};
+ghost use Rattle.image_snapshot.specs.ReadNode.{saidNode, refusedNode};
+ghost use Rattle.image_snapshot.specs.Restore.{saidRestore};
+ghost use Rattle.image_snapshot.specs.Save.{saidSave, saidSaved};
+ghost use Rattle.image_snapshot.specs.declared.NodeRead.the-variants.{Found};
 ghost use Rattle.abi.specs.Report.{saidReport, saidCheckReport, saidSaveReport, saidNodeReport};
 use super::AnswerReport;
 use super::CheckReport;
@@ -16,14 +16,14 @@ use super::NodeReport;
 use super::SaveReport;
 use height::ReferenceLevel;
 use height::Time;
-use network::Checked;
+use lent::Checked;
 use protocol::Answer;
 use protocol::Refusal;
 use protocol::Rule;
-use snapshot::NodeRead;
-use snapshot::NodeRecord;
-use snapshot::Restored;
-use snapshot::Saved;
+use image_snapshot::NodeRead;
+use image_snapshot::NodeRecord;
+use image_snapshot::Restored;
+use image_snapshot::Saved;
 
 // ---- events
 

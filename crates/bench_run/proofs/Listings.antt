@@ -9,11 +9,10 @@ use lib.Dec.{eqb}
 use Rattle.commands.specs.Commands.{SaidCommand, commandOf}
 use Rattle.election.specs.StepOn.{Outcome}
 use Rattle.election.proofs.RunLaws.{own-call}
-use Rattle.protocol.specs.Component.{Node}
-use Rattle.protocol.specs.History.{State, started, advance}
-use Rattle.protocol.specs.Network.{Network, fresh}
+use Rattle.protocol.specs.Network.{Node, Network, fresh}
+use Rattle.calls.specs.History.{State, started, advance}
 use Rattle.protocol.specs.Step.{Event}
-use Rattle.protocol.proofs.Good.{Good, good-started, good-advance}
+use Rattle.calls.proofs.Good.{Good, good-started, good-advance}
 use Rattle.tables.specs.Load.{tablesOf}
 use Rattle.tables.specs.Tables.{Tables}
 use Rattle.tables.proofs.Back.{storable, load-back}

@@ -10,14 +10,13 @@ use borrow.Author.Tests.{ne-eqb, le-leb, lt-leb, ltb-true, ltb-false}
 use lib.Dec.{leb, ltb}
 use lib.ListN.{length, take, drop}
 use lib.Seq.{length-take-le}
-use Rattle.height.proofs.OrderLaws.{clash}
+use Rattle.basics.proofs.Tests.{clash, Choice, yes!, no!, choice}
 use Rattle.commands.specs.Commands.{linesOf, toNewline, headOf}
 use Rattle.commands.proofs.LineLaws.{lines-next}
-use Rattle.network.specs.Check.{SaidCheck}
-use Rattle.network.specs.Fresh.{Filled, filled, freshOn}
-use Rattle.network.proofs.CheckLaws.{is-sized}
+use Rattle.lent.specs.Check.{SaidCheck}
+use Rattle.lent.specs.Fresh.{Filled, filled, freshOn}
+use Rattle.lent.proofs.CheckLaws.{is-sized}
 use Rattle.protocol.specs.Network.{fresh}
-use Rattle.protocol.proofs.TestsLaws.{Choice, yes!, no!, choice}
 use Rattle.tables.specs.Load.{tablesOf}
 use Rattle.tables.specs.Tables.{Tables, tables, Sized}
 use Rattle.tables.proofs.Sizes.{rows-small, cells-small}

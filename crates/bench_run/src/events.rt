@@ -5,7 +5,7 @@ ghost use Prim.Native.Nat.{_+_, _^_, _≤_, _<_};
 ghost use lib.ListN.{length, drop};
 ghost use Rattle.bench_run.specs.OnTables.{commandLineOn, afterCommandOn, eventLinesOn, afterLinesOn};
 ghost use Rattle.commands.specs.Commands.{linesOf, commandOf};
-ghost use Rattle.tables.specs.Tables.{before, after};
+ghost use Rattle.tables.specs.Tables.{atEntry, atExit};
 ghost use Rattle.text.specs.Text.{poured};
 use commands::Command;
 
@@ -20,9 +20,9 @@ fn line(
     at: usize,
 ) -> usize
     requires { ⌜ at < 2 ^ 30 ⌝ }
-    ensures { λ r. ⌜ (now (out .exit) ≡ poured (now (out .entry)) at (commandLineOn n (before nodes channels) k (commandOf (now (text .entry)))))
-        × (r ≡ at + length (commandLineOn n (before nodes channels) k (commandOf (now (text .entry))))) × (r ≤ at + 35)
-        × (after nodes channels ≡ afterCommandOn n (before nodes channels) (commandOf (now (text .entry)))) ⌝ }
+    ensures { λ r. ⌜ (now (out .exit) ≡ poured (now (out .entry)) at (commandLineOn n (atEntry nodes channels) k (commandOf (now (text .entry)))))
+        × (r ≡ at + length (commandLineOn n (atEntry nodes channels) k (commandOf (now (text .entry))))) × (r ≤ at + 35)
+        × (atExit nodes channels ≡ afterCommandOn n (atEntry nodes channels) (commandOf (now (text .entry)))) ⌝ }
 {
     match commands::parse(text) {
         Command::Up(u, v) => {
@@ -52,9 +52,9 @@ pub fn lines(
     at: usize,
 ) -> usize
     requires { ⌜ (at ≤ 64) × (length (now input) ≤ 65536) ⌝ }
-    ensures { λ r. ⌜ (now (out .exit) ≡ poured (now (out .entry)) at (eventLinesOn n (before nodes channels) 1 (linesOf (drop from (now (input .entry))))))
-        × (r ≡ at + length (eventLinesOn n (before nodes channels) 1 (linesOf (drop from (now (input .entry))))))
-        × (r < 2 ^ 28) × (after nodes channels ≡ afterLinesOn n (before nodes channels) (linesOf (drop from (now (input .entry))))) ⌝ }
+    ensures { λ r. ⌜ (now (out .exit) ≡ poured (now (out .entry)) at (eventLinesOn n (atEntry nodes channels) 1 (linesOf (drop from (now (input .entry))))))
+        × (r ≡ at + length (eventLinesOn n (atEntry nodes channels) 1 (linesOf (drop from (now (input .entry))))))
+        × (r < 2 ^ 28) × (atExit nodes channels ≡ afterLinesOn n (atEntry nodes channels) (linesOf (drop from (now (input .entry))))) ⌝ }
 {
     let mut start = from;
     let mut k: u32 = 1;

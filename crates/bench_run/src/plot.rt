@@ -34,7 +34,7 @@ fn with_tables(
     ensures { λ r. ⌜ (now (out .exit) ≡ poured (now (out .entry)) 0 (plotListing n (linesOf (drop from (now (input .entry))))))
         × (r ≡ length (plotListing n (linesOf (drop from (now (input .entry)))))) ⌝ }
 {
-    network::fresh(n, nodes, channels);
+    lent::fresh(n, nodes, channels);
     let a = super::lines::put_event_head(out, 0);
     let b = super::events::lines(input, from, n, nodes, channels, out, a);
     let c = super::lines::put_station_head(out, b);

@@ -7,10 +7,10 @@ use lib.IntN.{pos}
 use Rattle.height.specs.Words.{Negated}
 use Rattle.height.specs.declared.Height.{Height}
 use Rattle.nodeset.specs.NodeSet.{member}
-use Rattle.protocol.specs.Functions.{update}
+use Rattle.basics.specs.Functions.{update}
 use Rattle.protocol.specs.Refusal.{tooDeep}
 use Rattle.protocol.specs.Step.{heightAfter, sends}
-use Rattle.protocol.specs.Component.{Node}
+use Rattle.protocol.specs.Network.{Node}
 use Rattle.protocol.specs.declared.Rule.{Rule}
 use Rattle.protocol.specs.declared.Rule.the-variants.{ChannelUp, ElectSelf, StartNewRefLevel, NoChange, Ignored}
 use Rattle.protocol.specs.declared.Rule.the-variants.{ReflectRefLevel, PropagateLargestRefLevel, AdoptLpIfPriority, Reply}

@@ -8,7 +8,7 @@ ghost use lib.ListN.{length};
 ghost use lib.Signed.{ltZ};
 ghost use Rattle.height.specs.Words.{Negated};
 ghost use Rattle.nodeset.specs.NodeSet.{member, setOf};
-ghost use Rattle.protocol.specs.Component.{Node};
+ghost use Rattle.protocol.specs.Network.{Node};
 ghost use Rattle.protocol.specs.Holds.{leastDelta, greatestDelta};
 ghost use Rattle.tables.specs.Tables.{width};
 ghost use Rattle.decision.specs.After.{seen, afterRule, startedAt, reflectedFrom, sendsTo, NegatedAfter, AdoptsNode};

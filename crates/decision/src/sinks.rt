@@ -5,7 +5,7 @@ ghost use Prim.Native.Nat.{_≤_};
 ghost use lib.ListN.{length};
 ghost use Rattle.height.specs.Words.{Negated};
 ghost use Rattle.nodeset.specs.NodeSet.{member};
-ghost use Rattle.protocol.specs.Component.{Node};
+ghost use Rattle.protocol.specs.Network.{Node};
 ghost use Rattle.protocol.specs.Sink.{above, sink};
 ghost use Rattle.tables.specs.Tables.{width};
 ghost use Rattle.decision.specs.After.{seen};

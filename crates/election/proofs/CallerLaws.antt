@@ -6,23 +6,19 @@ use mathlib.Core.List.{tail}
 use mathlib.Core.Path.{_≡_, refl, sym, ap, _∙_}
 use lib.Dec.{eqb}
 use borrow.Author.Tests.{eqb-true, eq-eqb}
-use Rattle.height.proofs.OrderLaws.{clash}
-use Rattle.network.specs.Check.{checkOn}
-use Rattle.network.proofs.SoundTables.{Words, sound-fits}
+use Rattle.basics.proofs.Tests.{clash, Choice, yes!, no!, choice}
+use Rattle.lent.specs.Check.{checkOn}
+use Rattle.lent.proofs.SoundTables.{Words, sound-fits}
 use Rattle.nodeset.specs.NodeSet.{setOf}
 use Rattle.protocol.specs.Answer.{saidRule, saidRefused}
-use Rattle.protocol.specs.Component.{Node}
-use Rattle.protocol.specs.History.{isReceipt}
-use Rattle.protocol.specs.Network.{Network}
+use Rattle.protocol.specs.Network.{Node, Network}
+use Rattle.protocol.specs.Step.{isReceipt, Event, receive, home, local}
 use Rattle.protocol.specs.Refusal.{returned, accepts, answer, next}
-use Rattle.protocol.specs.Step.{Event, receive, home, local}
 use Rattle.protocol.specs.declared.Rule.{Rule}
 use Rattle.protocol.specs.declared.Rule.the-variants.{ChannelUp, ElectSelf, StartNewRefLevel, NoChange, Ignored}
 use Rattle.protocol.specs.declared.Rule.the-variants.{ReflectRefLevel, PropagateLargestRefLevel, AdoptLpIfPriority, Reply}
-use Rattle.protocol.proofs.Accepted.{home-node, peer-node}
-use Rattle.protocol.proofs.Good.{accepts-accepted}
+use Rattle.protocol.proofs.Accepted.{home-node, peer-node, accepts-accepted}
 use Rattle.protocol.proofs.Locality.{other-records, other-channels, received-channel}
-use Rattle.protocol.proofs.TestsLaws.{Choice, yes!, no!, choice}
 use Rattle.tables.specs.Cell.{queue, cellWords}
 use Rattle.tables.specs.Fit.{TablesFit}
 use Rattle.tables.specs.Load.{load, tablesOf}

@@ -8,13 +8,13 @@ use mathlib.Core.Path.{_≡_, refl, sym, ap, _∙_}
 use lib.Dec.{eqb}
 use borrow.Author.Tests.{eq-eqb, ne-eqb}
 use Rattle.height.specs.declared.Height.{Height}
-use Rattle.height.proofs.OrderLaws.{clash, not-true-is-false}
+use Rattle.basics.proofs.Tests.{clash, not-true-is-false, Choice, yes!, no!, choice, equal?}
 use Rattle.nodeset.specs.NodeSet.{member}
-use Rattle.protocol.specs.Component.{Node}
-use Rattle.protocol.specs.Functions.{update}
-use Rattle.protocol.specs.Network.{Message, isNode, fresh, atPairs}
+use Rattle.protocol.specs.Network.{Node, Message, isNode, fresh, atPairs}
+use Rattle.basics.specs.Functions.{update}
 use Rattle.protocol.specs.Step.{cleared, post}
-use Rattle.protocol.proofs.TestsLaws.{Choice, yes!, no!, choice, equal?, node-passes, update-at, update-off}
+use Rattle.protocol.proofs.NodeLaws.{node-passes}
+use Rattle.basics.proofs.FunctionsLaws.{update-at, update-off}
 use Rattle.tables.specs.Cell.{count, queue, appended, taken, emptied}
 use Rattle.tables.specs.Fit.{CellFits}
 use Rattle.tables.specs.Load.{load, messagesOn}

@@ -2,10 +2,10 @@
 -- Assumes nothing.
 use Prim.Native.Nat.{ℕ}
 use mathlib.Core.Path.{_≡_, sym, ap, _∙_}
-use Rattle.network.specs.Check.{SaidCheck, saidCheck, checkOn}
-use Rattle.network.specs.declared.Checked.{Checked}
-use Rattle.network.specs.declared.Checked.the-variants.{Sound, Sizes, Fault}
-use Rattle.network.proofs.SoundTables.{Words, sound-fits}
+use Rattle.lent.specs.Check.{SaidCheck, saidCheck, checkOn}
+use Rattle.lent.specs.declared.Checked.{Checked}
+use Rattle.lent.specs.declared.Checked.the-variants.{Sound, Sizes, Fault}
+use Rattle.lent.proofs.SoundTables.{Words, sound-fits}
 use Rattle.protocol.specs.Answer.{saidRefused}
 use Rattle.protocol.specs.Step.{Event}
 use Rattle.tables.specs.Fit.{TablesFit}

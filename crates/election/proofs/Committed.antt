@@ -9,12 +9,12 @@ use lib.ListN.{length}
 use Rattle.decision.specs.After.{seen, sendsTo}
 use Rattle.height.specs.declared.Height.{Height}
 use Rattle.nodeset.specs.NodeSet.{member, setOf}
-use Rattle.protocol.specs.Component.{Node}
-use Rattle.protocol.specs.Functions.{update}
-use Rattle.protocol.specs.Network.{fresh}
+use Rattle.protocol.specs.Network.{Node, fresh}
+use Rattle.basics.specs.Functions.{update}
 use Rattle.protocol.specs.Step.{Local, carried, heightAfter, cleared, commit, post}
 use Rattle.protocol.specs.declared.Rule.{Rule}
-use Rattle.protocol.proofs.TestsLaws.{equal?, update-at}
+use Rattle.basics.proofs.Tests.{equal?}
+use Rattle.basics.proofs.FunctionsLaws.{update-at}
 use Rattle.tables.specs.Cell.{count}
 use Rattle.tables.specs.Fit.{RowFits, TablesFit}
 use Rattle.tables.specs.Load.{load, tablesOf, clockAt, neighborsAt, formingAt, heightsAt}

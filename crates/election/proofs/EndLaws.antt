@@ -17,7 +17,7 @@ use Rattle.height.specs.declared.Moved.the-variants.{To, AtEnd}
 use Rattle.height.specs.declared.Time.{Time}
 use Rattle.nodeset.specs.NodeSet.{member}
 use Rattle.protocol.specs.Answer.{saidRefused}
-use Rattle.protocol.specs.Component.{Node}
+use Rattle.protocol.specs.Network.{Node}
 use Rattle.protocol.specs.Refusal.{misnamed, unfit, late}
 use Rattle.protocol.specs.Rules.{downRule, receiptRule}
 use Rattle.protocol.specs.Step.{Event, up, down, receive, Local, local}
@@ -33,8 +33,7 @@ use Rattle.election.specs.Finish.{Between, Ignores, Hears, Chosen, local
 use Rattle.election.specs.StepOn.{outcome, stepAt}
 use Rattle.election.specs.declared.Kind.the-variants.{Raised, Dropped, Received}
 use Rattle.election.proofs.EventLaws.{between-named, misnamed-up, misnamed-down, misnamed-receive, up-is}
-use Rattle.election.proofs.EventLaws.{local-up, local-down, down-quiet, receive-unfit, receive-fit, local-ignored, local-heard}
-use Rattle.election.proofs.EventLaws.{late-past, late-not}
+use Rattle.election.proofs.EventLaws.{local-up, local-down, down-quiet, receive-unfit, receive-fit, local-ignored, local-heard, late-past, late-not}
 use Rattle.election.proofs.SetChanges.{joined, without, insert-lt, remove-lt}
 use Rattle.election.proofs.StepLaws.{step-unfit, step-late, step-finished, moved-to, moved-end}
 

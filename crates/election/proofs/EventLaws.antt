@@ -12,7 +12,7 @@ use Rattle.height.specs.Clock.{lastTime}
 use Rattle.height.specs.Height.{zeroHeight}
 use Rattle.height.specs.declared.Height.{Height}
 use Rattle.nodeset.specs.NodeSet.{member}
-use Rattle.protocol.specs.Functions.{update}
+use Rattle.basics.specs.Functions.{update}
 use Rattle.protocol.specs.Holds.{isEmpty}
 use Rattle.protocol.specs.Network.{Message, isNode, upTo}
 use Rattle.protocol.specs.Refusal.{misnamed, unfit, late}
@@ -21,7 +21,8 @@ use Rattle.protocol.specs.Step.{up, down, receive, local, localUp, localDown, l
 use Rattle.protocol.specs.declared.Rule.{Rule}
 use Rattle.protocol.specs.declared.Rule.the-variants.{ChannelUp, Ignored}
 use Rattle.protocol.proofs.Kept.{down-silent}
-use Rattle.protocol.proofs.TestsLaws.{and-left, and-right, update-at, update-self}
+use Rattle.basics.proofs.Tests.{and-left, and-right}
+use Rattle.basics.proofs.FunctionsLaws.{update-at, update-self}
 use Rattle.tables.specs.Cell.{count, messageAt, messagesAt, queue}
 use Rattle.tables.specs.Fit.{TablesFit}
 use Rattle.tables.specs.Load.{load, neighborsAt, formingAt}

@@ -10,16 +10,15 @@ use borrow.Author.Tests.{ne-eqb, ltb-true}
 use Rattle.decision.specs.After.{seen, afterRule, sendsTo}
 use Rattle.decision.specs.declared.After.the-variants.{New, TooDeep}
 use Rattle.height.specs.declared.Height.{Height}
-use Rattle.height.proofs.OrderLaws.{clash}
+use Rattle.basics.proofs.Tests.{clash, Choice, yes!, no!, choice}
 use Rattle.nodeset.specs.NodeSet.{member, setOf}
 use Rattle.protocol.specs.Answer.{saidRule, saidRefused}
-use Rattle.protocol.specs.Component.{Node}
-use Rattle.protocol.specs.Functions.{every}
-use Rattle.protocol.specs.Network.{capacity}
+use Rattle.protocol.specs.Network.{Node, capacity}
+use Rattle.basics.specs.Functions.{every}
 use Rattle.protocol.specs.Refusal.{tooDeep, hasRoom, crowded}
 use Rattle.protocol.specs.Step.{home, carried, heightAfter, cleared}
 use Rattle.protocol.specs.declared.Rule.{Rule}
-use Rattle.protocol.proofs.TestsLaws.{Choice, yes!, no!, choice, update-at, every-at}
+use Rattle.basics.proofs.FunctionsLaws.{update-at, every-at}
 use Rattle.tables.specs.Cell.{count, queue}
 use Rattle.tables.specs.Load.{load}
 use Rattle.tables.specs.Tables.{Tables, nodeOf, channelOf}

@@ -16,7 +16,7 @@ use Rattle.height.specs.declared.Height.{Height}
 use Rattle.height.proofs.WordsLaws.{negated-size}
 use Rattle.nodeset.specs.NodeSet.{member, setOf}
 use Rattle.protocol.specs.Answer.{saidRule, saidRefused}
-use Rattle.protocol.specs.Functions.{every}
+use Rattle.basics.specs.Functions.{every}
 use Rattle.protocol.specs.declared.Rule.{Rule}
 use Rattle.tables.specs.Tables.{Tables, nodeOf}
 use Rattle.tables.proofs.Wordy.{Wordy}

@@ -2,10 +2,10 @@
 -- Assumes that every word is one of 32 bits (`Words`).
 use Prim.Native.Nat.{ℕ}
 use mathlib.Core.Path.{_≡_, ap, _∙_}
-use Rattle.network.specs.Check.{checked, checkOn}
-use Rattle.network.proofs.SoundLoads.{sound-loads, load-inside}
-use Rattle.network.proofs.SoundNetworks.{sound-check}
-use Rattle.network.proofs.SoundTables.{Words}
+use Rattle.lent.specs.Check.{checked, checkOn}
+use Rattle.lent.proofs.SoundLoads.{sound-loads, load-inside}
+use Rattle.lent.proofs.SoundNetworks.{sound-check}
+use Rattle.lent.proofs.SoundTables.{Words}
 use Rattle.protocol.specs.Refusal.{next}
 use Rattle.protocol.specs.Step.{Event}
 use Rattle.protocol.proofs.Holding.{sound-holds}

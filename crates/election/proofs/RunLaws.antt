@@ -8,18 +8,18 @@ use mathlib.Core.Logic.{_⊎_, inl, inr}
 use mathlib.Core.Path.{_≡_, refl, sym}
 use lib.Dec.{eqb, ltb}
 use borrow.Author.Tests.{eq-eqb, ne-eqb, ltb-true, ltb-false}
-use Rattle.network.proofs.CheckLaws.{check-sizes}
-use Rattle.network.proofs.SoundNetworks.{sound-check}
+use Rattle.lent.proofs.CheckLaws.{check-sizes}
+use Rattle.lent.proofs.SoundNetworks.{sound-check}
 use Rattle.protocol.specs.Answer.{saidRefused}
-use Rattle.protocol.specs.History.{State, started, advance}
+use Rattle.calls.specs.History.{State, started, advance}
 use Rattle.protocol.specs.Refusal.{answer, next}
 use Rattle.protocol.specs.Step.{Event}
-use Rattle.protocol.proofs.Good.{Good, good-started, good-advance}
+use Rattle.calls.proofs.Good.{Good, good-started, good-advance}
 use Rattle.protocol.proofs.Holding.{sound-holds}
 use Rattle.protocol.proofs.RuleLaws.{byCases}
-use Rattle.protocol.proofs.Runs.{Promise, good-promise}
-use Rattle.protocol.proofs.TestsLaws.{equal?}
-use Rattle.protocol.proofs.Theorems.{Steady, good-steady}
+use Rattle.calls.proofs.Runs.{Promise, good-promise}
+use Rattle.basics.proofs.Tests.{equal?}
+use Rattle.calls.proofs.Theorems.{Steady, good-steady}
 use Rattle.tables.specs.Load.{load, tablesOf}
 use Rattle.tables.specs.Tables.{sized, width}
 use Rattle.tables.proofs.Back.{Storable, storable, load-back, tables-sized}

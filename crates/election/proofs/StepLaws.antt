@@ -13,7 +13,7 @@ use Rattle.height.proofs.Moves.{clock-moved, clock-moves}
 use Rattle.protocol.specs.Answer.{saidRefused}
 use Rattle.protocol.specs.Refusal.{misnamed, unfit, unfitNumber, late, tooDeep, crowded, returned, accepts, answer, next}
 use Rattle.protocol.specs.Step.{Event, home, local, cleared, step}
-use Rattle.protocol.proofs.TestsLaws.{Choice, yes!, no!, choice}
+use Rattle.basics.proofs.Tests.{Choice, yes!, no!, choice}
 use Rattle.tables.specs.Fit.{TablesFit}
 use Rattle.tables.specs.Load.{load}
 use Rattle.tables.specs.Tables.{Tables}

@@ -9,9 +9,10 @@ use lib.Dec.{ltb}
 use borrow.Author.Tests.{ne-eqb}
 use Rattle.height.specs.declared.Height.{Height}
 use Rattle.nodeset.specs.NodeSet.{member}
-use Rattle.protocol.specs.Component.{Node}
-use Rattle.protocol.specs.Functions.{every}
-use Rattle.protocol.proofs.TestsLaws.{equal?, every-at, every-all}
+use Rattle.protocol.specs.Network.{Node}
+use Rattle.basics.specs.Functions.{every}
+use Rattle.basics.proofs.Tests.{equal?}
+use Rattle.basics.proofs.FunctionsLaws.{every-at, every-all}
 use Rattle.tables.specs.Cell.{count}
 use Rattle.tables.specs.Tables.{channelOf}
 use Rattle.election.specs.Cells.{CellsAre, cellsOf, Silenced, clearedCells, sentCells, roomFor}

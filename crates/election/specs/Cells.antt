@@ -8,8 +8,7 @@ use lib.Dec.{eqb, ltb}
 use lib.ListN.{length}
 use Rattle.height.specs.declared.Height.{Height}
 use Rattle.nodeset.specs.NodeSet.{member}
-use Rattle.protocol.specs.Component.{Node}
-use Rattle.protocol.specs.Network.{capacity}
+use Rattle.protocol.specs.Network.{Node, capacity}
 use Rattle.tables.specs.Cell.{count, appended, taken, emptied}
 use Rattle.tables.specs.Tables.{cellWidth, channelOf}
 use Rattle.election.specs.declared.Kind.{Kind}

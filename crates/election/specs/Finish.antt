@@ -8,7 +8,7 @@ use Rattle.decision.specs.After.{seen, sendsTo}
 use Rattle.height.specs.declared.Height.{Height}
 use Rattle.nodeset.specs.NodeSet.{member, setOf}
 use Rattle.protocol.specs.Answer.{saidRule, saidRefused}
-use Rattle.protocol.specs.Component.{Node}
+use Rattle.protocol.specs.Network.{Node}
 use Rattle.protocol.specs.Refusal.{tooDeep, crowded}
 use Rattle.protocol.specs.Step.{Event, up, down, receive, home, Local, carried, cleared, commit}
 use Rattle.protocol.specs.declared.Rule.{Rule}

@@ -5,7 +5,7 @@ use mathlib.Core.Bool.{cond}
 use mathlib.Core.List.{List, [], _∷_}
 use lib.Dec.{eqb}
 use Rattle.protocol.specs.Answer.{Said, saidRefused}
-use Rattle.protocol.specs.History.{State, advance}
+use Rattle.calls.specs.History.{State, advance}
 use Rattle.protocol.specs.Refusal.{answer}
 use Rattle.protocol.specs.Step.{Event}
 use Rattle.tables.specs.Tables.{Tables}

@@ -3,7 +3,7 @@
 use Prim.Native.Nat.{ℕ}
 use mathlib.Core.Bool.{cond}
 use lib.Dec.{eqb}
-use Rattle.network.specs.Check.{SaidCheck, checkOn}
+use Rattle.lent.specs.Check.{SaidCheck, checkOn}
 use Rattle.protocol.specs.Answer.{Said, saidRefused}
 use Rattle.protocol.specs.Refusal.{answer, next}
 use Rattle.protocol.specs.Step.{Event}

@@ -6,8 +6,8 @@ use mathlib.Core.Path.{_≡_}
 use lib.Signed.{mag}
 use Rattle.height.specs.Words.{Negated}
 use Rattle.height.specs.declared.Height.{Height}
-use Rattle.protocol.specs.Component.{Node}
-use Rattle.protocol.specs.Functions.{every}
+use Rattle.protocol.specs.Network.{Node}
+use Rattle.basics.specs.Functions.{every}
 use Rattle.tables.specs.Row.{rowWith}
 use Rattle.tables.specs.Tables.{Tables, Sized, nodeOf, putNode}
 use Rattle.election.specs.Cells.{CellsAre, clearedCells, sentCells, roomFor, Takes, Silenced}

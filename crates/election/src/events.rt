@@ -8,7 +8,7 @@ ghost use Rattle.nodeset.specs.NodeSet.{member};
 ghost use Rattle.protocol.specs.Answer.{said};
 ghost use Rattle.protocol.specs.Step.{up, down, receive};
 ghost use Rattle.tables.specs.Fit.{TablesFit};
-ghost use Rattle.tables.specs.Tables.{given, before, after};
+ghost use Rattle.tables.specs.Tables.{given, atEntry, atExit};
 ghost use Rattle.election.specs.Finish.{Between, Ignores, Hears, named};
 ghost use Rattle.election.specs.StepOn.{outcome, stepAt};
 use super::Kind;
@@ -61,7 +61,7 @@ fn is_up(neighbors: u16, forming: u16, v: u32) -> bool
 
 fn up_at(n: u32, u: u32, v: u32, nodes: &mut [u32], channels: &mut [u32]) -> Answer
     requires { ⌜ Between n (given nodes channels) u v ⌝ }
-    ensures { λ r. ⌜ outcome (said r) (after nodes channels) ≡ stepAt n (up u v) (before nodes channels) ⌝ }
+    ensures { λ r. ⌜ outcome (said r) (atExit nodes channels) ≡ stepAt n (up u v) (atEntry nodes channels) ⌝ }
 {
     let row = tables::rows::node(n, u, nodes);
     let neighbors = tables::rows::neighbors(row);
@@ -92,7 +92,7 @@ fn up_at(n: u32, u: u32, v: u32, nodes: &mut [u32], channels: &mut [u32]) -> Ans
 
 pub fn up_named(n: u32, u: u32, v: u32, nodes: &mut [u32], channels: &mut [u32]) -> Answer
     requires { ⌜ TablesFit n (given nodes channels) ⌝ }
-    ensures { λ r. ⌜ outcome (said r) (after nodes channels) ≡ stepAt n (up u v) (before nodes channels) ⌝ }
+    ensures { λ r. ⌜ outcome (said r) (atExit nodes channels) ≡ stepAt n (up u v) (atEntry nodes channels) ⌝ }
 {
     if are_named(n, u, v) {
         return up_at(n, u, v, nodes, channels);
@@ -104,7 +104,7 @@ pub fn up_named(n: u32, u: u32, v: u32, nodes: &mut [u32], channels: &mut [u32])
 
 fn down_at(n: u32, u: u32, v: u32, nodes: &mut [u32], channels: &mut [u32]) -> Answer
     requires { ⌜ Between n (given nodes channels) u v ⌝ }
-    ensures { λ r. ⌜ outcome (said r) (after nodes channels) ≡ stepAt n (down u v) (before nodes channels) ⌝ }
+    ensures { λ r. ⌜ outcome (said r) (atExit nodes channels) ≡ stepAt n (down u v) (atEntry nodes channels) ⌝ }
 {
     let row = tables::rows::node(n, u, nodes);
     let neighbors = tables::rows::neighbors(row);
@@ -137,7 +137,7 @@ fn down_at(n: u32, u: u32, v: u32, nodes: &mut [u32], channels: &mut [u32]) -> A
 
 pub fn down_named(n: u32, u: u32, v: u32, nodes: &mut [u32], channels: &mut [u32]) -> Answer
     requires { ⌜ TablesFit n (given nodes channels) ⌝ }
-    ensures { λ r. ⌜ outcome (said r) (after nodes channels) ≡ stepAt n (down u v) (before nodes channels) ⌝ }
+    ensures { λ r. ⌜ outcome (said r) (atExit nodes channels) ≡ stepAt n (down u v) (atEntry nodes channels) ⌝ }
 {
     if are_named(n, u, v) {
         return down_at(n, u, v, nodes, channels);
@@ -150,7 +150,7 @@ pub fn down_named(n: u32, u: u32, v: u32, nodes: &mut [u32], channels: &mut [u32
 // A message from a node in neither set: rule I.
 fn ignore(n: u32, v: u32, u: u32, nodes: &mut [u32], channels: &mut [u32]) -> Answer
     requires { ⌜ Between n (given nodes channels) u v × Ignores n (given nodes channels) u v ⌝ }
-    ensures { λ r. ⌜ outcome (said r) (after nodes channels) ≡ stepAt n (receive v u) (before nodes channels) ⌝ }
+    ensures { λ r. ⌜ outcome (said r) (atExit nodes channels) ≡ stepAt n (receive v u) (atEntry nodes channels) ⌝ }
 {
     let row = tables::rows::node(n, u, nodes);
     let neighbors = tables::rows::neighbors(row);
@@ -178,7 +178,7 @@ fn ignore(n: u32, v: u32, u: u32, nodes: &mut [u32], channels: &mut [u32]) -> An
 // A message from a node in one of the sets: it joins N, leaves F, and its view is stored.
 fn hear(n: u32, v: u32, u: u32, nodes: &mut [u32], channels: &mut [u32]) -> Answer
     requires { ⌜ Between n (given nodes channels) u v × Hears n (given nodes channels) u v ⌝ }
-    ensures { λ r. ⌜ outcome (said r) (after nodes channels) ≡ stepAt n (receive v u) (before nodes channels) ⌝ }
+    ensures { λ r. ⌜ outcome (said r) (atExit nodes channels) ≡ stepAt n (receive v u) (atEntry nodes channels) ⌝ }
 {
     let row = tables::rows::node(n, u, nodes);
     let cell = tables::rows::channel(n, v, u, channels);
@@ -209,7 +209,7 @@ fn hear(n: u32, v: u32, u: u32, nodes: &mut [u32], channels: &mut [u32]) -> Answ
 
 fn receive_at(n: u32, v: u32, u: u32, nodes: &mut [u32], channels: &mut [u32]) -> Answer
     requires { ⌜ Between n (given nodes channels) u v ⌝ }
-    ensures { λ r. ⌜ outcome (said r) (after nodes channels) ≡ stepAt n (receive v u) (before nodes channels) ⌝ }
+    ensures { λ r. ⌜ outcome (said r) (atExit nodes channels) ≡ stepAt n (receive v u) (atEntry nodes channels) ⌝ }
 {
     let row = tables::rows::node(n, u, nodes);
     let neighbors = tables::rows::neighbors(row);
@@ -226,7 +226,7 @@ fn receive_at(n: u32, v: u32, u: u32, nodes: &mut [u32], channels: &mut [u32]) -
 
 pub fn receive_named(n: u32, v: u32, u: u32, nodes: &mut [u32], channels: &mut [u32]) -> Answer
     requires { ⌜ TablesFit n (given nodes channels) ⌝ }
-    ensures { λ r. ⌜ outcome (said r) (after nodes channels) ≡ stepAt n (receive v u) (before nodes channels) ⌝ }
+    ensures { λ r. ⌜ outcome (said r) (atExit nodes channels) ≡ stepAt n (receive v u) (atEntry nodes channels) ⌝ }
 {
     if are_named(n, u, v) {
         return receive_at(n, v, u, nodes, channels);

@@ -1,10 +1,10 @@
-// The end of every event, after its rule is chosen: the depth (8), room (9), then everything is written at once.
+// The end of every event, atExit its rule is chosen: the depth (8), room (9), then everything is written at once.
 // Assumes the bounds that each `requires` states.
 ghost use mathlib.Core.Path.{_≡_};
 ghost use Rattle.decision.specs.After.{AdoptsNode};
 ghost use Rattle.height.specs.Words.{Negated};
 ghost use Rattle.protocol.specs.Answer.{said};
-ghost use Rattle.tables.specs.Tables.{given, before, after};
+ghost use Rattle.tables.specs.Tables.{given, atEntry, atExit};
 ghost use Rattle.election.specs.Finish.{eventOf, localOf, finished, Chosen};
 ghost use Rattle.election.specs.StepOn.{outcome};
 ghost use Rattle.election.specs.Written.{Writes, Written};
@@ -32,7 +32,7 @@ fn write(
     channels: &mut [u32],
 )
     requires { ⌜ Writes kind n (given nodes channels) u v neighbors forming view own to ⌝ }
-    ensures { λ _. ⌜ Written kind n u v (t .0) neighbors forming view own to (before nodes channels) (after nodes channels) ⌝ }
+    ensures { λ _. ⌜ Written kind n u v (t .0) neighbors forming view own to (atEntry nodes channels) (atExit nodes channels) ⌝ }
 {
     super::sending::clear_channel(kind, n, u, v, channels);
     let a = tables::rows::node_start(n, u);
@@ -56,8 +56,8 @@ pub fn finish(
     channels: &mut [u32],
 ) -> Answer
     requires { ⌜ Chosen kind n (given nodes channels) u v neighbors forming rule × Negated (view .pair .nlts .0) × AdoptsNode n rule ⌝ }
-    ensures { λ r. ⌜ outcome (said r) (after nodes channels) ≡ finished n (eventOf kind u v)
-        (localOf n (before nodes channels) u v (t .0) neighbors forming view rule) (before nodes channels) ⌝ }
+    ensures { λ r. ⌜ outcome (said r) (atExit nodes channels) ≡ finished n (eventOf kind u v)
+        (localOf n (atEntry nodes channels) u v (t .0) neighbors forming view rule) (atEntry nodes channels) ⌝ }
 {
     let row = tables::rows::node(n, u, nodes);
     let After::New(own) = decision::outcome::height_after(n, neighbors, row, v, view, u, t, rule)

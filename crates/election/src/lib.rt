@@ -3,9 +3,9 @@
 ghost use mathlib.Core.Path.{_≡_};
 ghost use Rattle.protocol.specs.Answer.{said};
 ghost use Rattle.protocol.specs.Step.{up, down, receive};
-ghost use Rattle.tables.specs.Tables.{before, after};
+ghost use Rattle.tables.specs.Tables.{atEntry, atExit};
 ghost use Rattle.election.specs.StepOn.{outcome, stepOn};
-use network::Checked;
+use lent::Checked;
 use protocol::Answer;
 use protocol::Refusal;
 
@@ -13,7 +13,7 @@ mod events;
 mod finish;
 mod sending;
 
-// The kind of an event: what it does to a channel before it sends.
+// The kind of an event: what it does to a channel atEntry it sends.
 pub enum Kind {
     Raised,
     Dropped,
@@ -22,9 +22,9 @@ pub enum Kind {
 
 // Channel u to v goes up, at u.
 pub fn up(n: u32, u: u32, v: u32, nodes: &mut [u32], channels: &mut [u32]) -> Answer
-    ensures { λ r. ⌜ outcome (said r) (after nodes channels) ≡ stepOn n (up u v) (before nodes channels) ⌝ }
+    ensures { λ r. ⌜ outcome (said r) (atExit nodes channels) ≡ stepOn n (up u v) (atEntry nodes channels) ⌝ }
 {
-    match network::check(n, nodes, channels) {
+    match lent::check(n, nodes, channels) {
         Checked::Sizes => Answer::Refused(Refusal::Sizes),
         Checked::Fault(a, b) => Answer::Refused(Refusal::Fault(a, b)),
         Checked::Sound => events::up_named(n, u, v, nodes, channels),
@@ -33,9 +33,9 @@ pub fn up(n: u32, u: u32, v: u32, nodes: &mut [u32], channels: &mut [u32]) -> An
 
 // Channel u to v goes down, at u.
 pub fn down(n: u32, u: u32, v: u32, nodes: &mut [u32], channels: &mut [u32]) -> Answer
-    ensures { λ r. ⌜ outcome (said r) (after nodes channels) ≡ stepOn n (down u v) (before nodes channels) ⌝ }
+    ensures { λ r. ⌜ outcome (said r) (atExit nodes channels) ≡ stepOn n (down u v) (atEntry nodes channels) ⌝ }
 {
-    match network::check(n, nodes, channels) {
+    match lent::check(n, nodes, channels) {
         Checked::Sizes => Answer::Refused(Refusal::Sizes),
         Checked::Fault(a, b) => Answer::Refused(Refusal::Fault(a, b)),
         Checked::Sound => events::down_named(n, u, v, nodes, channels),
@@ -44,9 +44,9 @@ pub fn down(n: u32, u: u32, v: u32, nodes: &mut [u32], channels: &mut [u32]) -> 
 
 // The first message of channel v to u is received, at u.
 pub fn receive(n: u32, v: u32, u: u32, nodes: &mut [u32], channels: &mut [u32]) -> Answer
-    ensures { λ r. ⌜ outcome (said r) (after nodes channels) ≡ stepOn n (receive v u) (before nodes channels) ⌝ }
+    ensures { λ r. ⌜ outcome (said r) (atExit nodes channels) ≡ stepOn n (receive v u) (atEntry nodes channels) ⌝ }
 {
-    match network::check(n, nodes, channels) {
+    match lent::check(n, nodes, channels) {
         Checked::Sizes => Answer::Refused(Refusal::Sizes),
         Checked::Fault(a, b) => Answer::Refused(Refusal::Fault(a, b)),
         Checked::Sound => events::receive_named(n, v, u, nodes, channels),

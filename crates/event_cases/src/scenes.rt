@@ -23,7 +23,7 @@ fn put(words: &mut [u32], i: usize, x: u32) {
 }
 
 pub fn fresh(nodes: &mut [u32], channels: &mut [u32]) {
-    network::fresh(3, nodes, channels);
+    lent::fresh(3, nodes, channels);
 }
 
 pub fn own_neighbor(nodes: &mut [u32]) {

@@ -11,7 +11,7 @@ use lib.Signed.{ltZ, mag}
 use mir.Syntax.{Width, w32, w64}
 use mir.Val.{toZ, ofZ, SFits}
 use mir.Facts.{toZ-ofZ}
-use Rattle.height.proofs.OrderLaws.{clash}
+use Rattle.basics.proofs.Tests.{clash}
 
 -- a test on the bits is the test on the numbers
 pub test-lt : (w : Width) (a b : ℤ) {v : Bool} → SFits w a → SFits w b → ltZ (toZ w (ofZ w a)) (toZ w (ofZ w b)) ≡ v → ltZ a b ≡ v

@@ -16,9 +16,9 @@ use Rattle.height.specs.declared.Height.{Height}
 use Rattle.height.specs.declared.ReferenceLevel.{ReferenceLevel}
 use Rattle.nodeset.specs.NodeSet.{member, within, apart}
 use Rattle.nodeset.proofs.Members.{none-above}
-use Rattle.protocol.specs.Functions.{every}
-use Rattle.protocol.specs.Holds.{levelHolds, deltaHolds, pairHolds, heightHolds, notInBoth, setsHold}
-use Rattle.protocol.proofs.TestsLaws.{and-left, and-right, equal?}
+use Rattle.basics.specs.Functions.{every}
+use Rattle.protocol.specs.Holds.{levelHolds, deltaHolds, leaderPairHolds, heightHolds, notInBoth, setsHold}
+use Rattle.basics.proofs.Tests.{and-left, and-right, equal?}
 
 -- ---- a height
 
@@ -58,7 +58,7 @@ negated-range (negsuc n) h = rw (le-leb n 4294967294 h)
 module _ (n k : ℕ) (h : Height) (negated : Negated (h .pair .nlts .0)) where
   pub height-test : (levelHolds n (h .level) && deltaHolds (h .delta) && leb 1 (h .pair .lid) && leb (h .pair .lid) n && eqb (h .id) k)
       ≡ heightHolds n k h
-  unfolding heightHolds pairHolds
+  unfolding heightHolds leaderPairHolds
   height-test =
       rw (
         negated-range (h .pair .nlts .0) negated,

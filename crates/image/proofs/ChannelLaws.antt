@@ -11,8 +11,8 @@ use lib.ListN.{length, drop, length-append}
 use lib.Seq.{drop-at}
 use Rattle.bits.specs.Bits.{bits}
 use Rattle.bits.proofs.Numbers.{Below, below-nil, below-append, below-bits}
-use Rattle.protocol.proofs.AllOf.{AllOf, none, more}
-use Rattle.protocol.proofs.TestsLaws.{Choice, yes!, no!, choice}
+use Rattle.basics.proofs.AllOf.{AllOf, none, more}
+use Rattle.basics.proofs.Tests.{Choice, yes!, no!, choice}
 use Rattle.image.specs.Image.{messageBits, channelBits}
 use Rattle.image.specs.Places.{fieldIn, messagesOf, channelNext}
 use Rattle.image.specs.Records.{Records}

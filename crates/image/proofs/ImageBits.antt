@@ -12,7 +12,7 @@ use lib.Seq.{drop-at}
 use Rattle.bits.specs.Bits.{bits, number, unpacked}
 use Rattle.bits.proofs.Numbers.{Below, below-append, below-zeros, below-bits, length-bits, bits-number, number-bits}
 use Rattle.bits.proofs.Bytes.{unpacked-packed, length-packed}
-use Rattle.protocol.proofs.TestsLaws.{Choice, yes!, no!, choice}
+use Rattle.basics.proofs.Tests.{Choice, yes!, no!, choice}
 use Rattle.tables.specs.Rows.{rows}
 use Rattle.tables.proofs.RowsMore.{rows-same}
 use Rattle.image.specs.Image.{headerBits, nodeBits, messageBits, channelBits, channelsBits, networkBits, padded, bytesOf, imageOf}

@@ -18,12 +18,11 @@ use Rattle.height.specs.declared.Height.{Height}
 use Rattle.height.proofs.WordsLaws.{natAbs-neg}
 use Rattle.nodeset.specs.NodeSet.{setOf}
 use Rattle.nodeset.proofs.Members.{setOf-lt}
-use Rattle.protocol.specs.Component.{Node}
-use Rattle.protocol.specs.Network.{Message, Network}
+use Rattle.protocol.specs.Network.{Node, Message, Network}
 use Rattle.protocol.proofs.Ranges.{DeltaFits, HeightFits}
-use Rattle.protocol.proofs.AllOf.{AllOf, none, more}
+use Rattle.basics.proofs.AllOf.{AllOf, none, more}
 use Rattle.protocol.proofs.Soundness.{Fits, MessageFits}
-use Rattle.protocol.proofs.TestsLaws.{Choice, yes!, no!, choice, SameOrNot, equal?}
+use Rattle.basics.proofs.Tests.{Choice, yes!, no!, choice, SameOrNot, equal?}
 use Rattle.tables.specs.Cell.{messageWords}
 use Rattle.tables.proofs.Back.{message-length}
 use Rattle.image.specs.Records.{recordsOf}

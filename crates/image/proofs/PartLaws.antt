@@ -9,7 +9,7 @@ use lib.ListN.{length, take, drop, replicate, length-append, length-drop, replic
 use lib.Seq.{drop-drop}
 use Rattle.bits.specs.Bits.{bits, total}
 use Rattle.bits.proofs.Numbers.{Below, below-append, below-bits, length-bits}
-use Rattle.protocol.proofs.AllOf.{none, more}
+use Rattle.basics.proofs.AllOf.{none, more}
 use Rattle.tables.specs.Cell.{count}
 use Rattle.tables.specs.Row.{clockIn, neighborsIn, formingIn}
 use Rattle.tables.specs.Rows.{rows, rowAt}

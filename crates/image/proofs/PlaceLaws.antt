@@ -6,9 +6,8 @@ use native.Mathlib.Omega.{arith}
 use mathlib.Core.Path.{_≡_, sym, _∙_}
 use mathlib.Core.List.{List}
 use lib.Dec.{eqb}
-use Rattle.protocol.proofs.TestsLaws.{Choice, yes!, no!, choice}
-use Rattle.image.specs.Places.{nodePlace, walked, channelNext, channelsNext}
-use Rattle.image.specs.Places.{channelsPlace, channelsFromPlace, channelPlace, imageEnd}
+use Rattle.basics.proofs.Tests.{Choice, yes!, no!, choice}
+use Rattle.image.specs.Places.{nodePlace, walked, channelNext, channelsNext, channelsPlace, channelsFromPlace, channelPlace, imageEnd}
 use Rattle.image.specs.Widths.{nodeWidth}
 use Rattle.image.proofs.ChannelLaws.{next-same, next-other}
 use Rattle.image.proofs.WalkLaws.{walked-mono}

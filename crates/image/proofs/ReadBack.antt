@@ -11,8 +11,8 @@ use lib.Dec.{eqb}
 use lib.ListN.{length, drop, length-append}
 use Rattle.bits.specs.Bits.{bits}
 use Rattle.bits.proofs.Numbers.{length-bits}
-use Rattle.protocol.proofs.AllOf.{AllOf}
-use Rattle.protocol.proofs.TestsLaws.{Choice, yes!, no!, choice}
+use Rattle.basics.proofs.AllOf.{AllOf}
+use Rattle.basics.proofs.Tests.{Choice, yes!, no!, choice}
 use Rattle.tables.specs.Rows.{rows}
 use Rattle.tables.proofs.RowsMore.{later, length-rows}
 use Rattle.image.specs.Image.{nodeBits, messageBits, channelBits, channelsBits, networkBits}

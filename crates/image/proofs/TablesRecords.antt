@@ -10,8 +10,8 @@ use borrow.Author.Tests.{eq-eqb, ne-eqb}
 use lib.ListN.{length, take, drop, getD, replicate, length-append, length-map, length-replicate}
 use lib.Seq.{take-at, drop-at}
 use Rattle.protocol.specs.Network.{Message, Network}
-use Rattle.protocol.proofs.AllOf.{AllOf, none, more}
-use Rattle.protocol.proofs.TestsLaws.{SameOrNot, equal?}
+use Rattle.basics.proofs.AllOf.{AllOf, none, more}
+use Rattle.basics.proofs.Tests.{SameOrNot, equal?}
 use Rattle.tables.specs.Cell.{messageWords, placeWords, cellWords}
 use Rattle.tables.specs.Load.{tablesOf}
 use Rattle.tables.specs.Row.{nodeWords}

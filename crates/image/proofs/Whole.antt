@@ -13,8 +13,7 @@ use Rattle.image.specs.Image.{headerBits, networkBits, padded, bytesOf, 
 use Rattle.image.specs.Places.{fieldIn, imageEnd, recordsIn}
 use Rattle.image.specs.Records.{Records}
 use Rattle.image.proofs.FieldInLaws.{field-head, field-behind, field-tail, field-in-lt}
-use Rattle.image.proofs.ImageBits.{number-zeros, zeros, padding}
-use Rattle.image.proofs.ImageBits.{wholeBits, below-whole, unpacked-image, length-image, length-whole, behind-header}
+use Rattle.image.proofs.ImageBits.{number-zeros, zeros, padding, wholeBits, below-whole, unpacked-image, length-image, length-whole, behind-header}
 use Rattle.image.proofs.ReadBack.{Fit, Agree, network-read, end-read, place-read}
 use Rattle.image.proofs.WriteBack.{network-written}
 

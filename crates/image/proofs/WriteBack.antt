@@ -10,7 +10,7 @@ use lib.ListN.{length, take, drop, length-drop, take-append-drop}
 use lib.Seq.{drop-drop}
 use Rattle.bits.specs.Bits.{bits, total}
 use Rattle.bits.proofs.Numbers.{Below, below-drop}
-use Rattle.protocol.proofs.TestsLaws.{Choice, yes!, no!, choice}
+use Rattle.basics.proofs.Tests.{Choice, yes!, no!, choice}
 use Rattle.tables.specs.Rows.{rows}
 use Rattle.image.specs.Image.{nodeBits, messageBits, channelBits, channelsBits, networkBits}
 use Rattle.image.specs.Places.{fieldIn, nodePlace, heightFrom, messagesOf, channelFrom, walked, channelNext, channelsNext}

@@ -32,7 +32,7 @@ fn put_word(words: &mut [u32], i: usize, x: u32) {
 
 fn room(n: u32, nodes: &[u32], channels: &[u32], out: &mut [u8], len: usize) {
     if len <= out.len() {
-        super::lines::saved(snapshot::save(n, nodes, channels, &mut out[..len]));
+        super::lines::saved(image_snapshot::save(n, nodes, channels, &mut out[..len]));
     }
 }
 
@@ -41,7 +41,7 @@ fn save_with(n: u32, i: usize, x: u32, len: usize) {
     let mut nodes = super::small::nodes_of_2();
     let mut channels = super::small::channels_of_2();
     let mut out = bytes();
-    network::fresh(2, &mut nodes, &mut channels);
+    lent::fresh(2, &mut nodes, &mut channels);
     put_word(&mut nodes, i, x);
     room(n, &nodes, &channels, &mut out, len);
 }
@@ -59,7 +59,7 @@ pub fn saves() {
 
 fn restored(image: &[u8], len: usize, nodes: &mut [u32], channels: &mut [u32]) {
     if len <= image.len() {
-        super::lines::restored(snapshot::restore(&image[..len], nodes, channels));
+        super::lines::restored(image_snapshot::restore(&image[..len], nodes, channels));
     }
 }
 
@@ -68,8 +68,8 @@ fn restore_with(i: usize, x: u8, len: usize) {
     let mut nodes = super::small::nodes_of_2();
     let mut channels = super::small::channels_of_2();
     let mut out = bytes();
-    network::fresh(2, &mut nodes, &mut channels);
-    snapshot::save(2, &nodes, &channels, &mut out);
+    lent::fresh(2, &mut nodes, &mut channels);
+    image_snapshot::save(2, &nodes, &channels, &mut out);
     put(&mut out, i, x);
     restored(&out, len, &mut nodes, &mut channels);
 }
@@ -80,8 +80,8 @@ fn restore_misfit(i: usize, x: u8, len: usize) {
     let mut nodes = super::small::nodes_of_2();
     let mut channels = super::small::channels_of_2();
     let mut out = bytes();
-    network::fresh(2, &mut nodes, &mut channels);
-    snapshot::save(2, &nodes, &channels, &mut out);
+    lent::fresh(2, &mut nodes, &mut channels);
+    image_snapshot::save(2, &nodes, &channels, &mut out);
     put(&mut out, i, x);
     restored(&out, len, &mut few, &mut channels);
 }
@@ -135,7 +135,7 @@ pub fn restores() {
 fn looked(image: &[u8], len: usize, row: &mut [u32], wide: usize) {
     if len <= image.len() {
         if wide <= row.len() {
-            super::lines::looked(snapshot::read_node(&image[..len], 2, 288, &mut row[..wide]));
+            super::lines::looked(image_snapshot::read_node(&image[..len], 2, 288, &mut row[..wide]));
         }
     }
 }
@@ -145,9 +145,9 @@ fn look_with(i: usize, x: u8, len: usize, wide: usize) {
     let mut channels = super::small::channels_of_2();
     let mut out = bytes();
     let mut row = heights();
-    network::fresh(2, &mut nodes, &mut channels);
+    lent::fresh(2, &mut nodes, &mut channels);
     put_word(&mut nodes, 17, 258);
-    snapshot::save(2, &nodes, &channels, &mut out);
+    image_snapshot::save(2, &nodes, &channels, &mut out);
     put(&mut out, i, x);
     looked(&out, len, &mut row, wide);
 }

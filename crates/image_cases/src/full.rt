@@ -77,7 +77,7 @@ fn fill_nodes(nodes: &mut [u32]) {
 
 fn room(nodes: &[u32], channels: &[u32], out: &mut [u8], len: usize) {
     if len <= out.len() {
-        super::lines::saved(snapshot::save(16, nodes, channels, &mut out[..len]));
+        super::lines::saved(image_snapshot::save(16, nodes, channels, &mut out[..len]));
     }
 }
 
@@ -85,7 +85,7 @@ fn room(nodes: &[u32], channels: &[u32], out: &mut [u8], len: usize) {
 fn around(nodes: &mut [u32], channels: &mut [u32], out: &mut [u8]) {
     room(nodes, channels, out, 34043);
     room(nodes, channels, out, 34044);
-    super::lines::restored(snapshot::restore(out, nodes, channels));
+    super::lines::restored(image_snapshot::restore(out, nodes, channels));
     room(nodes, channels, out, 34044);
 }
 
@@ -93,7 +93,7 @@ pub fn sixteen() {
     let mut nodes = nodes_of_16();
     let mut channels = channels_of_16();
     let mut out = bytes();
-    network::fresh(16, &mut nodes, &mut channels);
+    lent::fresh(16, &mut nodes, &mut channels);
     fill_nodes(&mut nodes);
     fill_channels(&mut channels);
     around(&mut nodes, &mut channels, &mut out);

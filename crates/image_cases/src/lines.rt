@@ -1,8 +1,8 @@
 // One line for each answer.
 // Assumes what the programs assume: the contracts of the C functions (docs/TRUST.md, 5).
-use snapshot::NodeRead;
-use snapshot::Restored;
-use snapshot::Saved;
+use image_snapshot::NodeRead;
+use image_snapshot::Restored;
+use image_snapshot::Saved;
 
 fn digit(k: u32) -> u8 {
     b'0' + ((k % 10) as u8)

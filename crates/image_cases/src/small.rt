@@ -53,8 +53,8 @@ fn bytes() -> [u8; 234]
 
 // A fresh network of n nodes is saved.
 fn fresh(n: u32, nodes: &mut [u32], channels: &mut [u32], out: &mut [u8]) {
-    network::fresh(n, nodes, channels);
-    super::lines::saved(snapshot::save(n, nodes, channels, out));
+    lent::fresh(n, nodes, channels);
+    super::lines::saved(image_snapshot::save(n, nodes, channels, out));
 }
 
 // 24 bytes.
@@ -75,7 +75,7 @@ pub fn two() {
 
 fn look(image: &[u8], k: u32, place: u64) {
     let mut row = row_of_4();
-    super::lines::looked(snapshot::read_node(image, k, place, &mut row));
+    super::lines::looked(image_snapshot::read_node(image, k, place, &mut row));
 }
 
 // Node 3 starts at bit 928: 927, 929, the starts of nodes 2 and 4, and 928 + 2^32 give 13. Nodes 0 and 5 give 3.

@@ -6,12 +6,12 @@ use mathlib.Core.Bool.{Bool, true, false, not, cond, _&&_}
 use mathlib.Core.Path.{_≡_, refl}
 use lib.Dec.{ltb, eqb}
 use borrow.Author.Tests.{eqb-false, not-true, not-false, ltb-false}
-use Rattle.protocol.specs.Component.{Node}
-use Rattle.protocol.specs.Functions.{every}
-use Rattle.protocol.specs.Network.{Network, isNode}
+use Rattle.protocol.specs.Network.{Node, Network, isNode}
+use Rattle.basics.specs.Functions.{every}
 use Rattle.protocol.specs.Refusal.{misnamed, unfit, unfitNumber, late, tooDeep, hasRoom, crowded, returned}
 use Rattle.protocol.specs.Step.{Event, up, down, receive, home, peer, local, cleared}
-use Rattle.protocol.proofs.TestsLaws.{and-left, and-right, is-node}
+use Rattle.basics.proofs.Tests.{and-left, and-right}
+use Rattle.protocol.proofs.NodeLaws.{is-node}
 
 not-equal : (u v : ℕ) → not (eqb u v) ≡ true → u ≡ v → ⊥
 not-equal u v h = eqb-false u v (not-true (eqb u v) h)

@@ -5,10 +5,10 @@ use Rattle.height.specs.Height.{levelKey, pairKey, heightKey}
 use Rattle.height.specs.Order.{before, same}
 use Rattle.nodeset.specs.NodeSet.{setOf}
 use Rattle.protocol.specs.Cases.{cases, readings, outcomes, expectations}
-use Rattle.protocol.specs.Component.{pairQuiet, nodeQuiet, quiet}
-use Rattle.protocol.specs.Functions.{every, all, update}
-use Rattle.protocol.specs.Holds.{levelHolds, deltaHolds, pairHolds, heightHolds, messageHolds, notInBoth}
-use Rattle.protocol.specs.Holds.{setsHold, ownHolds, viewHolds, channelHolds, placeHolds, nodeHolds, sound}
+use Rattle.protocol.specs.Quiet.{pairQuiet, nodeQuiet, quiet}
+use Rattle.basics.specs.Functions.{every, all, update}
+use Rattle.protocol.specs.Holds.{levelHolds, deltaHolds, leaderPairHolds, heightHolds, messageHolds, notInBoth}
+use Rattle.protocol.specs.Holds.{setsHold, ownHolds, viewHolds, channelHolds, pairHolds, nodeHolds, sound}
 use Rattle.protocol.specs.Refusal.{misnamed, late, hasRoom, crowded, returned, accepts, answer, next, nextAll, answers}
 use Rattle.protocol.specs.Rules.{absent, downRule, larger, largest, deltas, ofLevel, oneLevelRule, equalPairsRule, receiptRule}
 use Rattle.protocol.specs.Sink.{above, sink}
@@ -16,8 +16,8 @@ use Rattle.protocol.specs.Step.{carried, localUp, localDown, localIgnore
 use Rattle.protocol.specs.Times.{timesWithin, messageTimely, pairTimely, nodeTimely, timely}
 
 pub cases-hold : (outcomes cases ≡ expectations cases) × (outcomes readings ≡ expectations readings)
-unfolding before same levelKey pairKey heightKey setOf every all update levelHolds deltaHolds pairHolds heightHolds messageHolds notInBoth
-    setsHold ownHolds viewHolds channelHolds placeHolds nodeHolds sound timesWithin messageTimely pairTimely nodeTimely timely above
+unfolding before same levelKey pairKey heightKey setOf every all update levelHolds deltaHolds leaderPairHolds heightHolds messageHolds notInBoth
+    setsHold ownHolds viewHolds channelHolds pairHolds nodeHolds sound timesWithin messageTimely pairTimely nodeTimely timely above
     sink absent downRule larger largest deltas ofLevel oneLevelRule equalPairsRule receiptRule carried localUp localDown localIgnored
     localTaken post commit step misnamed late hasRoom crowded returned accepts answer next nextAll answers pairQuiet nodeQuiet quiet
 cases-hold = (refl, refl)

@@ -13,19 +13,18 @@ use Rattle.height.specs.Height.{heightKey, zeroHeight}
 use Rattle.height.specs.Order.{same}
 use Rattle.height.specs.declared.Height.{Height}
 use Rattle.height.proofs.OrderLaws.{same-refl}
-use Rattle.protocol.specs.Component.{Node}
-use Rattle.protocol.specs.Functions.{all}
-use Rattle.protocol.specs.Holds.{heightHolds, messageHolds, notInBoth, setsHold, isEmpty, ownHolds}
-use Rattle.protocol.specs.Holds.{viewHolds, channelHolds, placeHolds, nodeHolds, sound}
-use Rattle.protocol.specs.Network.{Message, Network, upTo, capacity}
+use Rattle.protocol.specs.Network.{Node, Message, Network, upTo, capacity}
+use Rattle.basics.specs.Functions.{all}
+use Rattle.protocol.specs.Holds.{heightHolds, messageHolds, notInBoth, setsHold, isEmpty, ownHolds, viewHolds, channelHolds, pairHolds, nodeHolds, sound}
 use Rattle.protocol.specs.Times.{timesWithin, messageTimely, pairTimely, nodeTimely, timely}
-use Rattle.protocol.proofs.AllOf.{AllOf, more}
+use Rattle.basics.proofs.AllOf.{AllOf, more}
 use Rattle.protocol.proofs.Channels.{empty-is}
 use Rattle.protocol.proofs.Invariant.{PostedBy, Inv}
 use Rattle.protocol.proofs.Ranges.{negated-le, height-holds}
 use Rattle.protocol.proofs.RuleLaws.{Bounded}
 use Rattle.protocol.proofs.Soundness.{MessageFits, Fits, diagonal}
-use Rattle.protocol.proofs.TestsLaws.{Choice, yes!, no!, choice, SameOrNot, equal?, and-both, every-all}
+use Rattle.basics.proofs.Tests.{Choice, yes!, no!, choice, SameOrNot, equal?, and-both}
+use Rattle.basics.proofs.FunctionsLaws.{every-all}
 
 -- ---- messages
 
@@ -90,8 +89,8 @@ module _ (n : ℕ) (p : Network) (fits : Fits n p) where
       idle (yes! i) = rw i
       idle (no! i) = rw i (empty-is (p .channel u v) (fits .idle u v i))
 
-  place-holds : (u v : ℕ) → Node n u → placeHolds n p u v ≡ true
-  unfolding placeHolds
+  place-holds : (u v : ℕ) → Node n u → pairHolds n p u v ≡ true
+  unfolding pairHolds
   place-holds u v node = go (equal? u v)
     where
       go : SameOrNot u v → cond (eqb u v) (ownHolds n p u) (viewHolds n p u v && channelHolds n p u v) ≡ true
@@ -101,7 +100,7 @@ module _ (n : ℕ) (p : Network) (fits : Fits n p) where
   pub sound-holds : sound n p ≡ true
   unfolding sound nodeHolds
   sound-holds =
-      every-all n (nodeHolds n p) (λ u l k. every-all n (placeHolds n p u) (λ v i j. place-holds u v (record { low = l; high = k })))
+      every-all n (nodeHolds n p) (λ u l k. every-all n (pairHolds n p u) (λ v i j. place-holds u v (record { low = l; high = k })))
 
 pub timely-holds : (n : ℕ) (p : Network) → Inv n p → Fits n p → timely n p ≡ true
 unfolding timely nodeTimely pairTimely

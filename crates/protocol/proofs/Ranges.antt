@@ -15,9 +15,9 @@ use Rattle.height.specs.Order.{same}
 use Rattle.height.specs.declared.Height.{Height}
 use Rattle.height.specs.declared.LeaderPair.{LeaderPair}
 use Rattle.height.specs.declared.ReferenceLevel.{ReferenceLevel}
-use Rattle.height.proofs.OrderLaws.{clash, same-is}
-use Rattle.protocol.specs.Holds.{levelHolds, leastDelta, greatestDelta, deltaHolds, pairHolds, heightHolds}
-use Rattle.protocol.proofs.TestsLaws.{SameOrNot, equal?, and-left, and-right}
+use Rattle.basics.proofs.Tests.{clash, SameOrNot, equal?, and-left, and-right}
+use Rattle.height.proofs.OrderLaws.{same-is}
+use Rattle.protocol.specs.Holds.{levelHolds, leastDelta, greatestDelta, deltaHolds, leaderPairHolds, heightHolds}
 
 pub record LevelFits (n : ℕ) (l : ReferenceLevel) : Type 0 where
   pub tau-le : l .tau .0 ≤ lastTime
@@ -83,7 +83,7 @@ level-holds n l f = rw (le-leb _ lastTime (f .tau-le), le-leb _ n (f .oid-le), l
     go (inr d) = rw (ne-eqb _ 0 d, ne-eqb _ 0 (λ t. d (f .unstarted t)))
 
 pub height-holds : (n k : ℕ) (h : Height) → HeightFits n k h → heightHolds n k h ≡ true
-unfolding heightHolds deltaHolds pairHolds
+unfolding heightHolds deltaHolds leaderPairHolds
 height-holds n k h f =
     let q = f .pair in
     let e : leZ (negℤ (pos lastTime)) (h .pair .nlts .0) ≡ true = rw (q .nlts-is) (negated-le lastTime (q .election) (q .election-le)) in
@@ -153,8 +153,8 @@ delta-fits d e = record {
   high = ltZ-leZ d greatestDelta (and-right (leZ leastDelta d) (leZ d greatestDelta) e);
 }
 
-pair-fits : (n : ℕ) (q : LeaderPair) → pairHolds n q ≡ true → PairFits n q
-unfolding pairHolds
+pair-fits : (n : ℕ) (q : LeaderPair) → leaderPairHolds n q ≡ true → PairFits n q
+unfolding leaderPairHolds
 pair-fits n q e =
     let abc = and-left (x && y && z) (leb (q .lid) n) e in
     let ab = and-left (x && y) z abc in
@@ -195,7 +195,7 @@ height-fits n k h e =
     y = deltaHolds (h .delta)
 
     z : Bool
-    z = pairHolds n (h .pair)
+    z = leaderPairHolds n (h .pair)
 
 -- the zero height is known by its key
 pub zero-height : (h : Height) → same (heightKey h) (heightKey zeroHeight) ≡ true → h ≡ zeroHeight

@@ -6,11 +6,10 @@ use mathlib.Core.List.{[]}
 use mathlib.Core.Logic.{inl, inr}
 use mathlib.Core.Path.{_≡_, sym, fun-ext}
 use borrow.Author.Tests.{ne-eqb}
-use Rattle.height.proofs.OrderLaws.{not-true-is-false}
-use Rattle.protocol.specs.Component.{Node}
-use Rattle.protocol.specs.Network.{Network, isNode, fresh, atNodes, atPairs, restrict}
+use Rattle.basics.proofs.Tests.{not-true-is-false, Choice, yes!, no!, choice, SameOrNot, equal?}
+use Rattle.protocol.specs.Network.{Node, Network, isNode, fresh, atNodes, atPairs, restrict}
 use Rattle.protocol.proofs.Soundness.{Fits}
-use Rattle.protocol.proofs.TestsLaws.{Choice, yes!, no!, choice, SameOrNot, equal?, is-node, no-node}
+use Rattle.protocol.proofs.NodeLaws.{is-node, no-node}
 
 -- ---- functions that agree outside 1 to n
 

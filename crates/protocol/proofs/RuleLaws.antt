@@ -12,12 +12,11 @@ use Rattle.height.specs.Height.{levelKey, pairKey, heightKey, selfElected}
 use Rattle.height.specs.Order.{before, same}
 use Rattle.height.specs.declared.Height.{Height}
 use Rattle.height.specs.declared.ReferenceLevel.{ReferenceLevel}
-use Rattle.height.proofs.OrderLaws.{clash, before-less, before-asym, before-append, before-irrefl}
-use Rattle.height.proofs.OrderLaws.{not-before-trans, ltZ-neg}
+use Rattle.basics.proofs.Tests.{clash, Choice, yes!, no!, choice, SameOrNot, equal?}
+use Rattle.height.proofs.OrderLaws.{before-less, before-asym, before-append, before-irrefl, not-before-trans, ltZ-neg}
 use Rattle.protocol.specs.Rules.{larger, largest}
 use Rattle.protocol.specs.Sink.{above, sink}
-use Rattle.protocol.proofs.TestsLaws.{Choice, yes!, no!, choice, SameOrNot, equal?}
-use Rattle.protocol.proofs.TestsLaws.{every-false}
+use Rattle.basics.proofs.FunctionsLaws.{every-false}
 
 -- what holds of x if b, and of y if not, holds of the one that b picks
 pub byCases : {X : Type 0} (G : X → Type 0) (b : Bool) (x y : X) → (b ≡ true → G x) → (b ≡ false → G y) → G (cond b x y)

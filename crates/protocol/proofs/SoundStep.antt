@@ -11,24 +11,23 @@ use lib.ListN.{length}
 use borrow.Author.Tests.{eq-eqb, ne-eqb, leb-true, not-true}
 use Rattle.height.specs.Clock.{lastTime}
 use Rattle.height.specs.Height.{zeroHeight}
-use Rattle.height.proofs.OrderLaws.{clash}
-use Rattle.protocol.specs.Component.{Node}
-use Rattle.protocol.specs.Functions.{every, all}
-use Rattle.protocol.specs.Holds.{heightHolds, messageHolds, notInBoth, setsHold, isEmpty, ownHolds}
-use Rattle.protocol.specs.Holds.{viewHolds, channelHolds, placeHolds, nodeHolds, sound}
-use Rattle.protocol.specs.Network.{Message, Network, isNode, upTo, capacity, fresh, atNodes, atPairs, restrict}
+use Rattle.basics.proofs.Tests.{clash, Choice, yes!, no!, choice, SameOrNot, equal?, and-left, and-right}
+use Rattle.protocol.specs.Network.{Node, Message, Network, isNode, upTo, capacity, fresh, atNodes, atPairs, restrict}
+use Rattle.basics.specs.Functions.{every, all}
+use Rattle.protocol.specs.Holds.{heightHolds, messageHolds, notInBoth, setsHold, isEmpty, ownHolds, viewHolds, channelHolds, pairHolds, nodeHolds, sound}
 use Rattle.protocol.specs.Refusal.{accepts, next}
 use Rattle.protocol.specs.Step.{Event, step}
-use Rattle.protocol.proofs.AllOf.{AllOf, none, more}
+use Rattle.basics.proofs.AllOf.{AllOf, none, more}
 use Rattle.protocol.proofs.Channels.{is-empty}
-use Rattle.protocol.proofs.Good.{accepts-accepted}
+use Rattle.protocol.proofs.Accepted.{accepts-accepted}
 use Rattle.protocol.proofs.Holding.{sound-holds}
 use Rattle.protocol.proofs.Ranges.{HeightFits, height-fits, zero-height}
 use Rattle.protocol.proofs.Restrict.{restrict-is}
 use Rattle.protocol.proofs.RuleLaws.{byCases}
 use Rattle.protocol.proofs.Soundness.{Ranged, MessageFits, Fits}
 use Rattle.protocol.proofs.StepFits.{step-fits}
-use Rattle.protocol.proofs.TestsLaws.{Choice, yes!, no!, choice, SameOrNot, equal?, and-left, and-right, is-node, no-node, every-at}
+use Rattle.protocol.proofs.NodeLaws.{is-node, no-node}
+use Rattle.basics.proofs.FunctionsLaws.{every-at}
 
 -- ---- outside 1 to n
 
@@ -141,16 +140,16 @@ module _ (n : ℕ) (p : Network) (inside : restrict n p ≡ p) (holds : sound n 
 
   -- at the nodes
 
-  at : (u v : ℕ) → Node n u → Node n v → placeHolds n p u v ≡ true
+  at : (u v : ℕ) → Node n u → Node n v → pairHolds n p u v ≡ true
   unfolding sound nodeHolds
-  at u v a b = every-at n (placeHolds n p u) (every-at n (nodeHolds n p) holds u (a .low) (a .high)) v (b .low) (b .high)
+  at u v a b = every-at n (pairHolds n p u) (every-at n (nodeHolds n p) holds u (a .low) (a .high)) v (b .low) (b .high)
 
   own-at : (u : ℕ) → Node n u → ownHolds n p u ≡ true
-  unfolding placeHolds
+  unfolding pairHolds
   own-at u a = rw (eq-eqb u u refl) at (at u u a a)
 
   pair-at : (u v : ℕ) → Node n u → Node n v → (u ≡ v → ⊥) → (viewHolds n p u v && channelHolds n p u v) ≡ true
-  unfolding placeHolds
+  unfolding pairHolds
   pair-at u v a b d = rw (ne-eqb u v d) at (at u v a b)
 
   view-at : (u v : ℕ) → Node n u → Node n v → (u ≡ v → ⊥) → viewHolds n p u v ≡ true

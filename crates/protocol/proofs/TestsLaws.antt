@@ -7,10 +7,9 @@ use mathlib.Core.Logic.{_⊎_, inl, inr}
 use mathlib.Core.Path.{_≡_, refl, fun-ext}
 use lib.Dec.{eqb, leb}
 use borrow.Author.Tests.{eqb-true, eqb-false, eq-eqb, ne-eqb, leb-true, le-leb}
-use Rattle.height.proofs.OrderLaws.{clash, not-true-is-false}
-use Rattle.protocol.specs.Component.{Node}
-use Rattle.protocol.specs.Functions.{every, update}
-use Rattle.protocol.specs.Network.{isNode}
+use Rattle.basics.proofs.Tests.{clash, not-true-is-false}
+use Rattle.protocol.specs.Network.{Node, isNode}
+use Rattle.basics.specs.Functions.{every, update}
 
 -- ---- a test, and its two answers
 

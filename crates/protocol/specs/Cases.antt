@@ -8,8 +8,8 @@ use lib.IntN.{ℤ, pos, negsuc}
 use Rattle.height.specs.Height.{zeroHeight}
 use Rattle.height.specs.declared.Height.{Height}
 use Rattle.protocol.specs.Answer.{Said}
-use Rattle.protocol.specs.Component.{quiet}
-use Rattle.protocol.specs.Functions.{update}
+use Rattle.protocol.specs.Quiet.{quiet}
+use Rattle.basics.specs.Functions.{update}
 use Rattle.protocol.specs.Holds.{sound}
 use Rattle.protocol.specs.Network.{Network, fresh}
 use Rattle.protocol.specs.Refusal.{answers, nextAll}
@@ -28,9 +28,9 @@ isIn [] v = false
 isIn (x ∷ xs) v = eqb v x || isIn xs v
 
 -- each height at the node that it belongs to
-abbrev pub rowOf : List Height → ℕ → Height
-rowOf [] = λ v. zeroHeight
-rowOf (x ∷ xs) = update (rowOf xs) (x .id) x
+abbrev pub viewsOf : List Height → ℕ → Height
+viewsOf [] = λ v. zeroHeight
+viewsOf (x ∷ xs) = update (viewsOf xs) (x .id) x
 
 -- node u with this clock, N, F, and these heights, its own and its views
 abbrev pub withNode : ℕ → ℕ → List ℕ → List ℕ → List Height → Network → Network
@@ -38,7 +38,7 @@ withNode u clock N F heights p = record {
   clock = update (p .clock) u clock;
   neighbors = update (p .neighbors) u (isIn N);
   forming = update (p .forming) u (isIn F);
-  height = update (p .height) u (rowOf heights);
+  height = update (p .height) u (viewsOf heights);
   channel = p .channel;
 }
 
@@ -59,7 +59,7 @@ pub record Held : Type 0 where
   pub clock : ℕ
   pub own : Height
 
-pub record Outcome : Type 0 where
+pub record Expected : Type 0 where
   pub startSound : Bool  -- the start network breaks no rule
   pub startTimely : Bool  -- and its times are within its clocks
   pub rules : List ℕ  -- the letter of each answer
@@ -71,13 +71,13 @@ pub record Case : Type 0 where
   pub nodes : ℕ
   pub start : Network
   pub events : List Event
-  pub expected : Outcome
+  pub expected : Expected
 
 abbrev pub held : ℕ → ℕ → Height → Held
 held node clock own = record { node = node; clock = clock; own = own }
 
 -- from a sound start: rules, sets, what is held, quiet or not
-abbrev pub expect : List ℕ → List ℕ → List Held → Bool → Outcome
+abbrev pub expect : List ℕ → List ℕ → List Held → Bool → Expected
 expect rules sets hs q = record { startSound = true; startTimely = true; rules = rules; sets = sets; held = hs; isQuiet = q }
 
 -- ---- the cases
@@ -251,7 +251,7 @@ abbrev pub heldIn : Network → List Held → List Held
 heldIn p [] = []
 heldIn p (x ∷ xs) = held (x .node) (p .clock (x .node)) (p .height (x .node) (x .node)) ∷ heldIn p xs
 
-abbrev pub outcomeOf : Case → Outcome
+abbrev pub outcomeOf : Case → Expected
 outcomeOf c = record {
   startSound = sound (c .nodes) (c .start);
   startTimely = timely (c .nodes) (c .start);
@@ -261,10 +261,10 @@ outcomeOf c = record {
   isQuiet = quiet (c .nodes) (nextAll (c .nodes) (c .start) (c .events));
 }
 
-abbrev pub outcomes : List Case → List Outcome
+abbrev pub outcomes : List Case → List Expected
 outcomes [] = []
 outcomes (c ∷ cs) = outcomeOf c ∷ outcomes cs
 
-abbrev pub expectations : List Case → List Outcome
+abbrev pub expectations : List Case → List Expected
 expectations [] = []
 expectations (c ∷ cs) = c .expected ∷ expectations cs

@@ -13,7 +13,7 @@ use Rattle.height.specs.Height.{heightKey, zeroHeight}
 use Rattle.height.specs.declared.Height.{Height}
 use Rattle.height.specs.declared.LeaderPair.{LeaderPair}
 use Rattle.height.specs.declared.ReferenceLevel.{ReferenceLevel}
-use Rattle.protocol.specs.Functions.{every, all}
+use Rattle.basics.specs.Functions.{every, all}
 use Rattle.protocol.specs.Network.{Message, Network, upTo, capacity}
 
 -- originator 0 to n, bit 0 or 1; the search time is 0 exactly when the originator is 0, and then the bit is 0
@@ -33,12 +33,12 @@ unfoldable pub deltaHolds : ℤ → Bool
 deltaHolds d = leZ leastDelta d && leZ d greatestDelta
 
 -- negated election time 0 down to −4,294,967,295; leader 1 to n
-unfoldable pub pairHolds : ℕ → LeaderPair → Bool
-pairHolds n q = leZ (negℤ (pos lastTime)) (q .nlts .0) && leZ (q .nlts .0) (pos 0) && leb 1 (q .lid) && leb (q .lid) n
+unfoldable pub leaderPairHolds : ℕ → LeaderPair → Bool
+leaderPairHolds n q = leZ (negℤ (pos lastTime)) (q .nlts .0) && leZ (q .nlts .0) (pos 0) && leb 1 (q .lid) && leb (q .lid) n
 
 -- a height of node k
 unfoldable pub heightHolds : ℕ → ℕ → Height → Bool
-heightHolds n k h = levelHolds n (h .level) && deltaHolds (h .delta) && pairHolds n (h .pair) && eqb (h .id) k
+heightHolds n k h = levelHolds n (h .level) && deltaHolds (h .delta) && leaderPairHolds n (h .pair) && eqb (h .id) k
 
 -- a message's station number is the sender's, u
 unfoldable pub messageHolds : ℕ → ℕ → Message → Bool
@@ -73,11 +73,11 @@ channelHolds n p u v =
     leb (length (p .channel u v)) capacity && all (messageHolds n u) (p .channel u v)
     && (upTo p u v || isEmpty (p .channel u v))
 
-unfoldable pub placeHolds : ℕ → Network → ℕ → ℕ → Bool
-placeHolds n p u v = cond (eqb u v) (ownHolds n p u) (viewHolds n p u v && channelHolds n p u v)
+unfoldable pub pairHolds : ℕ → Network → ℕ → ℕ → Bool
+pairHolds n p u v = cond (eqb u v) (ownHolds n p u) (viewHolds n p u v && channelHolds n p u v)
 
 unfoldable pub nodeHolds : ℕ → Network → ℕ → Bool
-nodeHolds n p u = every n (placeHolds n p u)
+nodeHolds n p u = every n (pairHolds n p u)
 
 -- the network breaks no rule
 unfoldable pub sound : ℕ → Network → Bool

@@ -13,7 +13,7 @@ use Rattle.protocol.specs.declared.Rule.{Rule}
 use Rattle.protocol.specs.declared.Rule.the-variants.{ChannelUp, ElectSelf, StartNewRefLevel, NoChange, Ignored}
 use Rattle.protocol.specs.declared.Rule.the-variants.{ReflectRefLevel, PropagateLargestRefLevel, AdoptLpIfPriority, Reply}
 use Rattle.protocol.specs.Answer.{Said, saidRule, saidRefused}
-use Rattle.protocol.specs.Functions.{every}
+use Rattle.basics.specs.Functions.{every}
 use Rattle.protocol.specs.Holds.{isEmpty, leastDelta, greatestDelta}
 use Rattle.protocol.specs.Network.{Message, Network, isNode, upTo, capacity}
 use Rattle.protocol.specs.Step.{Event, up, down, receive, home, peer, Local, local, cleared, step}

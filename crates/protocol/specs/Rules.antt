@@ -13,7 +13,7 @@ use Rattle.height.specs.declared.ReferenceLevel.{ReferenceLevel}
 use Rattle.protocol.specs.declared.Rule.{Rule}
 use Rattle.protocol.specs.declared.Rule.the-variants.{ElectSelf, StartNewRefLevel, NoChange}
 use Rattle.protocol.specs.declared.Rule.the-variants.{ReflectRefLevel, PropagateLargestRefLevel, AdoptLpIfPriority, Reply}
-use Rattle.protocol.specs.Functions.{every}
+use Rattle.basics.specs.Functions.{every}
 use Rattle.protocol.specs.Sink.{sink}
 
 -- ---- a down

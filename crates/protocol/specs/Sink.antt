@@ -6,7 +6,7 @@ use lib.Dec.{eqb}
 use Rattle.height.specs.Order.{before, same}
 use Rattle.height.specs.Height.{pairKey, heightKey}
 use Rattle.height.specs.declared.Height.{Height}
-use Rattle.protocol.specs.Functions.{every}
+use Rattle.basics.specs.Functions.{every}
 
 -- if v is in N, its view has u's leader pair and is greater than u's height
 unfoldable pub above : (ℕ → Bool) → (ℕ → Height) → ℕ → ℕ → Bool

@@ -11,7 +11,7 @@ use Rattle.protocol.specs.declared.Rule.{Rule}
 use Rattle.protocol.specs.declared.Rule.the-variants.{ChannelUp, ElectSelf, StartNewRefLevel, NoChange, Ignored}
 use Rattle.protocol.specs.declared.Rule.the-variants.{ReflectRefLevel, PropagateLargestRefLevel, AdoptLpIfPriority, Reply}
 use Rattle.protocol.specs.Clock.{ticked, receiptClock}
-use Rattle.protocol.specs.Functions.{update}
+use Rattle.basics.specs.Functions.{update}
 use Rattle.protocol.specs.Network.{Message, Network, upTo}
 use Rattle.protocol.specs.Rules.{downRule, receiptRule, deltas, smallest}
 

@@ -6,7 +6,7 @@ use lib.Dec.{leb}
 use lib.IntN.{pos, negℤ}
 use lib.Signed.{leZ}
 use Rattle.height.specs.declared.Height.{Height}
-use Rattle.protocol.specs.Functions.{every, all}
+use Rattle.basics.specs.Functions.{every, all}
 use Rattle.protocol.specs.Network.{Message, Network}
 
 -- search time and election time are at most c

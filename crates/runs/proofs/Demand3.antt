@@ -7,19 +7,19 @@ use mathlib.Core.Logic.{_⊎_, inl, inr}
 use mathlib.Core.Path.{_≡_, sym, ap, _∙_}
 use lib.ListN.{length}
 use Rattle.election.specs.RunOn.{EventCall, tablesAfter as tablesAfterEvents, saidByTables}
-use Rattle.network.specs.Check.{checked}
-use Rattle.network.specs.Fresh.{Filled, filled, freshOn}
-use Rattle.network.proofs.CheckLaws.{sized-is}
-use Rattle.protocol.specs.Component.{Node, Quiescent, OneLeader}
-use Rattle.protocol.specs.History.{History, upIn, sentSince, receivedSince, waiting}
-use Rattle.protocol.specs.Network.{Network, upTo, own}
-use Rattle.protocol.specs.Run.{Call, save, restore, Saved, RunState, startOfRun, Earlier, never, savedAt, lastSave, Fair, fairSaved, fairRefused}
-use Rattle.protocol.proofs.LastSave.{NoneWrote, Wrote, remembered}
-use Rattle.protocol.proofs.Runs.{stateOf, good-promise}
-use Rattle.protocol.proofs.SavesLaws.{restore-history}
-use Rattle.protocol.proofs.TestsLaws.{Choice, yes!, no!, choice}
-use Rattle.snapshot.specs.Restore.{restoreOn}
-use Rattle.snapshot.specs.Save.{saveOn}
+use Rattle.lent.specs.Check.{checked}
+use Rattle.lent.specs.Fresh.{Filled, filled, freshOn}
+use Rattle.lent.proofs.CheckLaws.{sized-is}
+use Rattle.protocol.specs.Network.{Node, Network, upTo, own}
+use Rattle.calls.specs.Component.{Quiescent, OneLeader}
+use Rattle.calls.specs.History.{History, upIn, sentSince, receivedSince, waiting}
+use Rattle.calls.specs.Run.{Call, save, restore, Saved, RunState, startOfRun, Earlier, never, savedAt, lastSave, Fair, fairSaved, fairRefused}
+use Rattle.calls.proofs.LastSave.{NoneWrote, Wrote, remembered}
+use Rattle.calls.proofs.Runs.{stateOf, good-promise}
+use Rattle.calls.proofs.SavesLaws.{restore-history}
+use Rattle.basics.proofs.Tests.{Choice, yes!, no!, choice}
+use Rattle.image_snapshot.specs.Restore.{restoreOn}
+use Rattle.image_snapshot.specs.Save.{saveOn}
 use Rattle.tables.specs.Load.{load}
 use Rattle.tables.specs.Tables.{Tables, sized}
 use Rattle.runs.specs.OnTables.{tablesAfterAll, putOut, onTables, freshTables, then, after, Allowed}

@@ -9,17 +9,17 @@ use borrow.Author.Tests.{eqb-true}
 use lib.Dec.{eqb, leb}
 use lib.ListN.{length, take, drop}
 use Rattle.image.specs.Image.{image}
-use Rattle.network.proofs.CheckLaws.{is-sized}
+use Rattle.lent.proofs.CheckLaws.{is-sized}
 use Rattle.protocol.specs.Holds.{sound}
 use Rattle.protocol.specs.Network.{Network, restrict}
-use Rattle.protocol.specs.Run.{RunState}
-use Rattle.protocol.proofs.Runs.{Sane}
+use Rattle.calls.specs.Run.{RunState}
+use Rattle.calls.proofs.Runs.{Sane}
 use Rattle.protocol.proofs.SoundStep.{sound-fits}
-use Rattle.protocol.proofs.TestsLaws.{Choice, yes!, no!, choice}
-use Rattle.snapshot.specs.Restore.{restoreOn}
-use Rattle.snapshot.specs.Save.{put}
-use Rattle.snapshot.proofs.RefusedLaws.{restore-kept}
-use Rattle.snapshot.proofs.RestoreSaved.{restore-image}
+use Rattle.basics.proofs.Tests.{Choice, yes!, no!, choice}
+use Rattle.image_snapshot.specs.Restore.{restoreOn}
+use Rattle.image_snapshot.specs.Save.{put}
+use Rattle.image_snapshot.proofs.RefusedLaws.{restore-kept}
+use Rattle.image_snapshot.proofs.RestoreSaved.{restore-image}
 use Rattle.tables.specs.Load.{tablesOf}
 use Rattle.tables.proofs.Back.{storable, load-back, tables-sized}
 use Rattle.runs.specs.ByMeaning.{saveMeant, restoreMeant}

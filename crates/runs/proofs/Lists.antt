@@ -3,9 +3,9 @@
 use mathlib.Core.Bool.{Bool, true, false}
 use mathlib.Core.List.{List, [], _∷_, _++_}
 use mathlib.Core.Path.{_≡_, refl}
-use Rattle.protocol.specs.Functions.{all}
-use Rattle.protocol.specs.Run.{Call, event, save, restore, Calls, RunState, act, perform, Fair, fairEvent, fairSave, AllFair, fairNil, fairCons}
-use Rattle.height.proofs.OrderLaws.{clash}
+use Rattle.basics.specs.Functions.{all}
+use Rattle.calls.specs.Run.{Call, event, save, restore, Calls, RunState, act, perform, Fair, fairEvent, fairSave, AllFair, fairNil, fairCons}
+use Rattle.basics.proofs.Tests.{clash}
 
 -- no restore
 abbrev pub isPlain : Call → Bool

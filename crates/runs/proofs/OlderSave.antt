@@ -16,25 +16,26 @@ use Rattle.image.specs.Places.{fieldIn, nodePlace, heightFrom, messagesOf, chan
 use Rattle.image.specs.Places.{channelsNext, channelsPlace, channelsFromPlace, channelPlace, imageEnd, recordsIn, tablesIn}
 use Rattle.image.specs.Records.{recordsOf, rowOf, placesOf, cellOf, messagesFrom, tablesFrom}
 use Rattle.image.specs.Widths.{recordBits, extendedOf, recordOf, heightWidth, messageWidth, nodeWidth}
-use Rattle.network.specs.Check.{checked, place, faultInRow, faultFrom, firstFault, checkOn}
+use Rattle.lent.specs.Check.{checked, pairAt, faultInRow, faultFrom, firstFault, checkOn}
 use Rattle.nodeset.specs.NodeSet.{member, setOf, within}
-use Rattle.places.specs.Place.{ownPlace, viewPlace, channelPlace as channelPlaceHolds, placeIn}
+use Rattle.pairs.specs.Pair.{ownSound, viewSound, channelPlace as channelPlaceHolds, pairSound}
 use Rattle.protocol.specs.Answer.{carriedOut, saidRefused}
-use Rattle.protocol.specs.Component.{Node, Quiescent, OneLeader, pairQuiet, nodeQuiet, quiet}
-use Rattle.protocol.specs.Functions.{every, all, update}
-use Rattle.protocol.specs.Holds.{levelHolds, deltaHolds, pairHolds, heightHolds, messageHolds, notInBoth, setsHold}
-use Rattle.protocol.specs.History.{Entry, entry, upIn, waiting}
-use Rattle.protocol.specs.Network.{own}
+use Rattle.protocol.specs.Network.{Node, own}
+use Rattle.calls.specs.Component.{Quiescent, OneLeader}
+use Rattle.protocol.specs.Quiet.{pairQuiet, nodeQuiet, quiet}
+use Rattle.basics.specs.Functions.{every, all, update}
+use Rattle.protocol.specs.Holds.{levelHolds, deltaHolds, leaderPairHolds, heightHolds, messageHolds, notInBoth, setsHold}
+use Rattle.calls.specs.History.{Entry, entry, upIn, waiting}
 use Rattle.protocol.specs.Refusal.{misnamed, late, hasRoom, crowded, returned, accepts, answer, next}
 use Rattle.protocol.specs.Rules.{absent, downRule, larger, largest, deltas, ofLevel, oneLevelRule, equalPairsRule, receiptRule}
-use Rattle.protocol.specs.Run.{Call, event, save, restore, Saved, startOfRun}
+use Rattle.calls.specs.Run.{Call, event, save, restore, Saved, startOfRun}
 use Rattle.protocol.specs.Sink.{above, sink}
 use Rattle.protocol.specs.Step.{up, down, receive, carried, localUp, localDown, localIgnored, localTaken, post, commit, step}
-use Rattle.reading.specs.Examine.{afterWalk, examined}
-use Rattle.reading.specs.Header.{headerHolds, headerOf}
-use Rattle.reading.specs.Walk.{channelStep, onward, steps, channelsFromWalk, channelsWalk, walk, endsAt}
-use Rattle.snapshot.specs.Restore.{restoreExamined, restoreOf, restoreHeaded, restoreOn}
-use Rattle.snapshot.specs.Save.{saidSaved, saving, put, saveChecked, saveOn}
+use Rattle.image_reading.specs.Examine.{afterWalk, examined}
+use Rattle.image_reading.specs.Header.{headerHolds, headerOf}
+use Rattle.image_reading.specs.Walk.{channelStep, onward, steps, channelsFromWalk, channelsWalk, walk, endsAt}
+use Rattle.image_snapshot.specs.Restore.{restoreExamined, restoreOf, restoreHeaded, restoreOn}
+use Rattle.image_snapshot.specs.Save.{saidSaved, saving, put, saveChecked, saveOn}
 use Rattle.tables.specs.Cell.{messageAt, messagesAt, queue, allZero, messageWords, placeWords, cellWords}
 use Rattle.tables.specs.Load.{load, tablesOf}
 use Rattle.tables.specs.Row.{heightIn, nodeWords}
@@ -162,9 +163,9 @@ pub computed : Computed
 unfolding bits number unpacked packed field spread gathered stepAt stepChecked stepOn levelKey pairKey heightKey before same deltaOf
     deltaWord heightWords heightAt headerBits nodeBits messageBits channelBits channelsBits networkBits padded bytesOf imageOf image fieldIn
     heightFrom messagesOf channelFrom walked channelNext channelsNext channelsPlace channelsFromPlace channelPlace imageEnd recordsIn
-    tablesIn recordsOf rowOf placesOf cellOf messagesFrom tablesFrom recordBits extendedOf recordOf heightWidth messageWidth nodeWidth place
-    faultInRow faultFrom firstFault checkOn member setOf within ownPlace viewPlace channelPlaceHolds placeIn every all update levelHolds
-    deltaHolds pairHolds heightHolds messageHolds notInBoth setsHold misnamed late hasRoom crowded returned accepts answer next absent
+    tablesIn recordsOf rowOf placesOf cellOf messagesFrom tablesFrom recordBits extendedOf recordOf heightWidth messageWidth nodeWidth pairAt
+    faultInRow faultFrom firstFault checkOn member setOf within ownSound viewSound channelPlaceHolds pairSound every all update levelHolds
+    deltaHolds leaderPairHolds heightHolds messageHolds notInBoth setsHold misnamed late hasRoom crowded returned accepts answer next absent
     downRule larger largest deltas ofLevel oneLevelRule equalPairsRule receiptRule above sink carried localUp localDown localIgnored
     localTaken post commit step afterWalk examined headerHolds headerOf channelStep onward steps channelsFromWalk channelsWalk walk endsAt
     restoreExamined restoreOf restoreHeaded restoreOn put saveChecked saveOn messageAt messagesAt queue allZero messageWords placeWords

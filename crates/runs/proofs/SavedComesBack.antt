@@ -3,15 +3,15 @@
 use Prim.Native.Nat.{ℕ, _≤_}
 use mathlib.Core.List.{List, [], _∷_, _++_}
 use mathlib.Core.Path.{_≡_, refl, sym, ap, subst, _∙_}
-use Rattle.network.specs.Check.{checked}
-use Rattle.network.specs.Fresh.{Filled, filled}
+use Rattle.lent.specs.Check.{checked}
+use Rattle.lent.specs.Fresh.{Filled, filled}
 use Rattle.protocol.specs.Network.{Network, fresh}
-use Rattle.protocol.specs.Run.{Call, save, restore, Saved, RunState, startOfRun, savedAt, lastSave, act, perform}
-use Rattle.protocol.specs.Run.{Fair, fairEvent, fairSave, fairSaved, fairRefused, AllFair, fairNil, fairCons}
-use Rattle.protocol.proofs.LastSave.{stays-last}
-use Rattle.protocol.proofs.SavesLaws.{save-last, not-forgotten}
-use Rattle.snapshot.specs.Restore.{restoreOn}
-use Rattle.snapshot.specs.Save.{saveOn}
+use Rattle.calls.specs.Run.{Call, save, restore, Saved, RunState, startOfRun, savedAt, lastSave, act, perform}
+use Rattle.calls.specs.Run.{Fair, fairEvent, fairSave, fairSaved, fairRefused, AllFair, fairNil, fairCons}
+use Rattle.calls.proofs.LastSave.{stays-last}
+use Rattle.calls.proofs.SavesLaws.{save-last, not-forgotten}
+use Rattle.image_snapshot.specs.Restore.{restoreOn}
+use Rattle.image_snapshot.specs.Save.{saveOn}
 use Rattle.tables.specs.Load.{tablesOf}
 use Rattle.tables.specs.Tables.{Tables}
 use Rattle.runs.specs.ByMeaning.{byMeaning}

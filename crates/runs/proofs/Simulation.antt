@@ -10,22 +10,22 @@ use lib.Dec.{eqb}
 use Rattle.election.specs.RunOn.{saidTo, called}
 use Rattle.election.specs.StepOn.{Outcome, outcome, stepOn}
 use Rattle.election.proofs.RunLaws.{not-sized, one-call}
-use Rattle.network.specs.Check.{checked, checkOn}
-use Rattle.network.proofs.CheckLaws.{check-sizes}
-use Rattle.network.proofs.SoundNetworks.{sound-check}
-use Rattle.protocol.specs.History.{advance}
+use Rattle.lent.specs.Check.{checked, checkOn}
+use Rattle.lent.proofs.CheckLaws.{check-sizes}
+use Rattle.lent.proofs.SoundNetworks.{sound-check}
+use Rattle.calls.specs.History.{advance}
 use Rattle.protocol.specs.Network.{Network, fresh}
-use Rattle.protocol.specs.Run.{Call, event, save, restore, Returned, Saved, RunState, startOfRun, sameBytes, Earlier, never, savedAt, lastSave}
-use Rattle.protocol.specs.Run.{steppedTo, savedTo, act, perform, Fair, fairEvent, fairSave, fairSaved, fairRefused, AllFair}
+use Rattle.calls.specs.Run.{Call, event, save, restore, Returned, Saved, RunState, startOfRun, sameBytes, Earlier, never, savedAt, lastSave}
+use Rattle.calls.specs.Run.{steppedTo, savedTo, act, perform, Fair, fairEvent, fairSave, fairSaved, fairRefused, AllFair}
 use Rattle.protocol.specs.Step.{Event}
 use Rattle.protocol.proofs.Holding.{sound-holds}
 use Rattle.protocol.proofs.Restrict.{restrict-is}
-use Rattle.protocol.proofs.Runs.{stateOf, act-sane, start-sane, Imaged}
-use Rattle.protocol.proofs.SavesLaws.{found}
-use Rattle.protocol.proofs.TestsLaws.{Choice, yes!, no!, choice, SameOrNot, equal?}
-use Rattle.snapshot.specs.Restore.{restoreOn}
-use Rattle.snapshot.specs.Save.{SaveOutcome, saveChecked, saveOn}
-use Rattle.snapshot.proofs.RefusedLaws.{restore-kept}
+use Rattle.calls.proofs.Runs.{stateOf, act-sane, start-sane, Imaged}
+use Rattle.calls.proofs.SavesLaws.{found}
+use Rattle.basics.proofs.Tests.{Choice, yes!, no!, choice, SameOrNot, equal?}
+use Rattle.image_snapshot.specs.Restore.{restoreOn}
+use Rattle.image_snapshot.specs.Save.{SaveOutcome, saveChecked, saveOn}
+use Rattle.image_snapshot.proofs.RefusedLaws.{restore-kept}
 use Rattle.tables.specs.Load.{load, tablesOf}
 use Rattle.tables.specs.Tables.{Tables}
 use Rattle.tables.proofs.Back.{storable, load-back}

@@ -5,7 +5,7 @@ use mathlib.Core.List.{List, [], _∷_, _++_}
 use mathlib.Core.Path.{_≡_, refl, sym, ap, ap₂, _∙_}
 use Rattle.election.specs.StepOn.{Outcome}
 use Rattle.protocol.specs.Network.{Network, fresh}
-use Rattle.protocol.specs.Run.{Call, event, save, restore, RunState, startOfRun, act, perform, AllFair}
+use Rattle.calls.specs.Run.{Call, event, save, restore, RunState, startOfRun, act, perform, AllFair}
 use Rattle.tables.specs.Load.{load, tablesOf}
 use Rattle.tables.specs.Tables.{Tables}
 use Rattle.runs.specs.ByMeaning.{byMeaning, replyTo, repliesTo}

@@ -6,9 +6,9 @@ use mathlib.Core.List.{List, [], _∷_}
 use lib.Dec.{eqb}
 use Rattle.image.specs.Image.{image}
 use Rattle.protocol.specs.Network.{Network}
-use Rattle.protocol.specs.Run.{Call, event, save, restore, Returned, Calls, RunState, act, meant}
-use Rattle.snapshot.specs.Restore.{restoreOn}
-use Rattle.snapshot.specs.Save.{SaveOutcome, saidSaved, saving, put}
+use Rattle.calls.specs.Run.{Call, event, save, restore, Returned, Calls, RunState, act, meant}
+use Rattle.image_snapshot.specs.Restore.{restoreOn}
+use Rattle.image_snapshot.specs.Save.{SaveOutcome, saidSaved, saving, put}
 use Rattle.tables.specs.Load.{load, tablesOf}
 use Rattle.runs.specs.OnTables.{Reply, toEvent, toSave, toRestore, writing}
 

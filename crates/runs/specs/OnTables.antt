@@ -4,13 +4,13 @@ use Prim.Native.Nat.{ℕ}
 use mathlib.Core.List.{List, [], _∷_}
 use lib.ListN.{take}
 use Rattle.election.specs.StepOn.{Outcome, stepOn}
-use Rattle.network.specs.Check.{SaidCheck}
-use Rattle.network.specs.Fresh.{Filled}
+use Rattle.lent.specs.Check.{SaidCheck}
+use Rattle.lent.specs.Fresh.{Filled}
 use Rattle.protocol.specs.Answer.{Said}
 use Rattle.protocol.specs.Network.{fresh}
-use Rattle.protocol.specs.Run.{Call, event, save, restore, Stepped, Returned, Calls, RunState, startOfRun, act, perform, AllFair}
-use Rattle.snapshot.specs.Restore.{restoreOn}
-use Rattle.snapshot.specs.Save.{SaveOutcome, saveOn}
+use Rattle.calls.specs.Run.{Call, event, save, restore, Stepped, Returned, Calls, RunState, startOfRun, act, perform, AllFair}
+use Rattle.image_snapshot.specs.Restore.{restoreOn}
+use Rattle.image_snapshot.specs.Save.{SaveOutcome, saveOn}
 use Rattle.tables.specs.Load.{tablesOf}
 use Rattle.tables.specs.Tables.{Tables}
 

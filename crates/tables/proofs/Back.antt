@@ -13,16 +13,15 @@ use lib.Seq.{getD-take, getD-drop, getD-append-add}
 use borrow.Author.Tests.{ne-eqb, leb-false, le-leb}
 use Rattle.height.specs.Words.{heightAt, heightWords}
 use Rattle.height.specs.declared.Height.{Height}
-use Rattle.height.proofs.OrderLaws.{clash}
+use Rattle.basics.proofs.Tests.{clash, Choice, yes!, no!, choice, equal?}
 use Rattle.height.proofs.WordsLaws.{same-words, words-height}
 use Rattle.nodeset.specs.NodeSet.{member, setOf}
 use Rattle.nodeset.proofs.Members.{member-setOf, setOf-lt, none-above, member-zero}
-use Rattle.protocol.specs.Component.{Node}
-use Rattle.protocol.specs.Network.{Message, Network, isNode, fresh, atNodes, atPairs, restrict}
-use Rattle.protocol.proofs.AllOf.{AllOf, none, more, all-weaker}
+use Rattle.protocol.specs.Network.{Node, Message, Network, isNode, fresh, atNodes, atPairs, restrict}
+use Rattle.basics.proofs.AllOf.{AllOf, none, more, all-weaker}
 use Rattle.protocol.proofs.Restrict.{restrict-is, same-nodes, same-pairs}
 use Rattle.protocol.proofs.Soundness.{Fits, MessageFits}
-use Rattle.protocol.proofs.TestsLaws.{Choice, yes!, no!, choice, equal?, is-node}
+use Rattle.protocol.proofs.NodeLaws.{is-node}
 use Rattle.tables.specs.Cell.{messageAt, messagesAt, queue, messageWords, placeWords, cellWords}
 use Rattle.tables.specs.Load.{load, tablesOf, clockAt, neighborsAt, formingAt, heightsAt, messagesOn}
 use Rattle.tables.specs.Row.{clockIn, neighborsIn, formingIn, heightIn, nodeWords}

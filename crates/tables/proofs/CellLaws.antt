@@ -13,7 +13,7 @@ use Rattle.height.specs.Words.{heightAt, heightWords, storedAt, deltaWord}
 use Rattle.height.specs.declared.Height.{Height}
 use Rattle.height.proofs.WordsLaws.{same-words, load-stored, stored-before, stored-past, stored-length, word-signed, natAbs-neg, sets-in}
 use Rattle.protocol.specs.Network.{Message}
-use Rattle.protocol.proofs.TestsLaws.{equal?}
+use Rattle.basics.proofs.Tests.{equal?}
 use Rattle.tables.specs.Cell.{count, place, messageAt, messagesAt, queue, appended, taken, emptied, messageWords, placeWords, cellWords}
 use Rattle.tables.specs.Fit.{CellFits}
 use Rattle.tables.specs.Rows.{part}

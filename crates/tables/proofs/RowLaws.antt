@@ -14,9 +14,10 @@ use Rattle.height.specs.declared.Height.{Height}
 use Rattle.height.proofs.WordsLaws.{same-words, load-stored, load-before, load-past, stored-before, stored-past, stored-length, sets-in}
 use Rattle.nodeset.specs.NodeSet.{member}
 use Rattle.nodeset.proofs.Members.{setOf-member}
-use Rattle.protocol.specs.Component.{Node}
-use Rattle.protocol.specs.Functions.{update}
-use Rattle.protocol.proofs.TestsLaws.{equal?, update-at, update-off}
+use Rattle.protocol.specs.Network.{Node}
+use Rattle.basics.specs.Functions.{update}
+use Rattle.basics.proofs.Tests.{equal?}
+use Rattle.basics.proofs.FunctionsLaws.{update-at, update-off}
 use Rattle.tables.specs.Fit.{RowFits}
 use Rattle.tables.specs.Row.{clockIn, neighborsIn, formingIn, heightIn, putHeight, headed, rowWith, nodeWords}
 use Rattle.tables.specs.Rows.{rowAt, rows}

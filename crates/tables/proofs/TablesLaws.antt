@@ -7,8 +7,8 @@ use mathlib.Core.Path.{_≡_, sym, ap, _∙_}
 use lib.ListN.{length}
 use Rattle.nodeset.specs.NodeSet.{member}
 use Rattle.nodeset.proofs.Members.{member-range}
-use Rattle.protocol.specs.Component.{Node}
-use Rattle.protocol.proofs.TestsLaws.{node-passes}
+use Rattle.protocol.specs.Network.{Node}
+use Rattle.protocol.proofs.NodeLaws.{node-passes}
 use Rattle.tables.specs.Cell.{queue, cellWords}
 use Rattle.tables.specs.Fit.{TablesFit}
 use Rattle.tables.specs.Load.{load, tablesOf}

@@ -4,7 +4,7 @@ use Prim.Native.Nat.{ℕ, _+_, _*_, _^_, _<_, _≤_}
 use mathlib.Core.List.{List}
 use mathlib.Core.Path.{_≡_}
 use lib.ListN.{getD, length}
-use Rattle.protocol.specs.Component.{Node}
+use Rattle.protocol.specs.Network.{Node}
 use Rattle.tables.specs.Cell.{count}
 use Rattle.tables.specs.Row.{neighborsIn, formingIn}
 use Rattle.tables.specs.Tables.{Tables, Sized, width, cellWidth, nodeOf, channelOf}

@@ -21,11 +21,11 @@ tables ns cs = record { nodes = ns; channels = cs }
 abbrev pub given : RefT (List ℕ) → RefT (List ℕ) → Tables
 given nodes channels = tables (nodes .now) (channels .now)
 
-abbrev pub before : {E F : Type 0} → Both (RefT (List ℕ)) E → Both (RefT (List ℕ)) F → Tables
-before nodes channels = tables (nodes .entry .now) (channels .entry .now)
+abbrev pub atEntry : {E F : Type 0} → Both (RefT (List ℕ)) E → Both (RefT (List ℕ)) F → Tables
+atEntry nodes channels = tables (nodes .entry .now) (channels .entry .now)
 
-abbrev pub after : {E F : Type 0} → Both E (RefT (List ℕ)) → Both F (RefT (List ℕ)) → Tables
-after nodes channels = tables (nodes .exit .now) (channels .exit .now)
+abbrev pub atExit : {E F : Type 0} → Both E (RefT (List ℕ)) → Both F (RefT (List ℕ)) → Tables
+atExit nodes channels = tables (nodes .exit .now) (channels .exit .now)
 
 -- words of a node's row: clock, linked set, forming set, n heights of seven words
 abbrev pub width : ℕ → ℕ

@@ -4,7 +4,7 @@ ghost use mathlib.Core.Path.{_≡_};
 ghost use Prim.Native.Nat.{_+_, _-_, _*_, _≤_, _<_};
 ghost use lib.ListN.{length};
 ghost use Rattle.height.specs.Words.{Negated};
-ghost use Rattle.protocol.specs.Component.{Node};
+ghost use Rattle.protocol.specs.Network.{Node};
 ghost use Rattle.tables.specs.Tables.{width, cellWidth, nodeOf, pairOf, channelOf};
 ghost use Rattle.tables.specs.Row.{clockIn, neighborsIn, formingIn, heightIn, rowWith};
 use height::Height;

@@ -1,4 +1,4 @@
--- `abi::election_check` meets its contract: what `network::check` answers, as a struct.
+-- `abi::election_check` meets its contract: what `lent::check` answers, as a struct.
 -- Assumes nothing.
 use borrow.Author.Needs.{needs}
 use Rattle.abi.proofs.election_check.Statement.{statement}

@@ -1,4 +1,4 @@
--- `abi::election_fresh` meets its contract: what `network::fresh` answers, as a struct.
+-- `abi::election_fresh` meets its contract: what `lent::fresh` answers, as a struct.
 -- Assumes nothing.
 use borrow.Author.Needs.{needs}
 use Rattle.abi.proofs.election_fresh.Statement.{statement}

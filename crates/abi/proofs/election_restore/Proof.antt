@@ -1,4 +1,4 @@
--- `abi::election_restore` meets its contract: what `snapshot::restore` answers, as a struct.
+-- `abi::election_restore` meets its contract: what `image_snapshot::restore` answers, as a struct.
 -- Assumes nothing.
 use borrow.Author.Needs.{needs}
 use Rattle.abi.proofs.election_restore.Statement.{statement}

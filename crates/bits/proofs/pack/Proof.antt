@@ -7,9 +7,8 @@ use mathlib.Core.Logic.{⊎-elim}
 use mathlib.Core.Path.{_≡_, sym, ap, _∙_}
 use lib.ListN.{length, set}
 use lib.Pow.{pow-pos, pow-mono}
-use Rattle.bits.proofs.Packing.{packing-few}
+use Rattle.bits.proofs.Packing.{packing-few, Packing, packing-start, packing-room, packing-more, packing-full, packing-as, packing-all}
 use Rattle.bits.proofs.Turns.{one-shl}
-use Rattle.bits.proofs.Packing.{Packing, packing-start, packing-room, packing-more, packing-full, packing-as, packing-all}
 use Rattle.bits.proofs.pack.Statement.{statement}
 use Rattle.bits.proofs.pack.Tie as tie
 

@@ -10,7 +10,7 @@ use Rattle.tables.specs.Tables.{tables}
 use Rattle.bench_run.specs.OnTables.{stationLineOn, stationLinesOn}
 use Rattle.bench_run.proofs.PourLaws.{both}
 use Rattle.bench_run.proofs.StationLaws.{Printed, printed-none, printed-next, printed-all}
-use Rattle.protocol.specs.Component.{Node}
+use Rattle.protocol.specs.Network.{Node}
 use Rattle.bench_run.proofs.stations.stations.Statement.{statement}
 use Rattle.bench_run.proofs.stations.stations.Tie as tie
 

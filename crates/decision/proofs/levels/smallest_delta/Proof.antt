@@ -11,7 +11,7 @@ use lib.IntN.{ℤ, pos}
 use mir.Syntax.{w32}
 use mir.Val.{toZ, SFits}
 use mir.Facts.{toZ-ofZ}
-use Rattle.height.proofs.OrderLaws.{clash}
+use Rattle.basics.proofs.Tests.{clash}
 use Rattle.height.specs.Height.{levelKey}
 use Rattle.height.specs.Order.{same}
 use Rattle.height.specs.declared.Height.{Height}

@@ -2,7 +2,7 @@
 -- Assumes nothing.
 use borrow.Author.Needs.{needs}
 use mathlib.Core.Path.{_∙_}
-use Rattle.protocol.proofs.TestsLaws.{update-at}
+use Rattle.basics.proofs.FunctionsLaws.{update-at}
 use Rattle.decision.proofs.outcome.reflected.Statement.{statement}
 use Rattle.decision.proofs.outcome.reflected.Tie as tie
 

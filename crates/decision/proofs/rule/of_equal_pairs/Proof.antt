@@ -2,7 +2,7 @@
 -- Assumes nothing.
 use borrow.Author.Needs.{needs}
 use Rattle.protocol.specs.Rules.{equalPairsRule}
-use Rattle.protocol.proofs.TestsLaws.{update-at}
+use Rattle.basics.proofs.FunctionsLaws.{update-at}
 use Rattle.decision.proofs.rule.of_equal_pairs.Statement.{statement}
 use Rattle.decision.proofs.rule.of_equal_pairs.Tie as tie
 

@@ -2,7 +2,7 @@
 -- Assumes nothing.
 use borrow.Author.Needs.{needs}
 use Rattle.protocol.specs.Rules.{receiptRule}
-use Rattle.protocol.proofs.TestsLaws.{update-at}
+use Rattle.basics.proofs.FunctionsLaws.{update-at}
 use Rattle.decision.proofs.rule.of_receipt.Statement.{statement}
 use Rattle.decision.proofs.rule.of_receipt.Tie as tie
 

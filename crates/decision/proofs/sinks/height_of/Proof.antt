@@ -2,8 +2,8 @@
 -- Assumes nothing.
 use borrow.Author.Needs.{needs}
 use mathlib.Core.Path.{sym, ap, _∙_}
-use Rattle.protocol.specs.Functions.{update}
-use Rattle.protocol.proofs.TestsLaws.{update-at, update-off}
+use Rattle.basics.specs.Functions.{update}
+use Rattle.basics.proofs.FunctionsLaws.{update-at, update-off}
 use Rattle.tables.specs.Row.{heightIn}
 use Rattle.decision.proofs.sinks.height_of.Statement.{statement}
 use Rattle.decision.proofs.sinks.height_of.Tie as tie

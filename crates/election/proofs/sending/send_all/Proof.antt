@@ -2,8 +2,7 @@
 -- The measure is the set that is left. Assumes nothing.
 use mathlib.Core.Path.{sym, _∙_}
 use borrow.Author.Needs.{needs}
-use Rattle.election.proofs.SendLaws.{Sending, sending-start, sending-done}
-use Rattle.election.proofs.SendLaws.{sending-node, sending-room, sending-less, sending-next}
+use Rattle.election.proofs.SendLaws.{Sending, sending-start, sending-done, sending-node, sending-room, sending-less, sending-next}
 use Rattle.election.proofs.sending.send_all.Statement.{statement}
 use Rattle.election.proofs.sending.send_all.Tie as tie
 

@@ -9,7 +9,7 @@ use Rattle.image_cases.proofs.damage.looked.Tie as tie
 use Rattle.image_cases.proofs.damage.looked.Reads as reads
 use Rattle.image_cases.proofs.damage.looked.Lts as lts
 use Rattle.image_cases.proofs.lines.looked.Reads as looked-reads
-use Rattle.snapshot.proofs.read_node.Reads as read-node-reads
+use Rattle.image_snapshot.proofs.read_node.Reads as read-node-reads
 
 slice-aggregate-read-node : tie.Need-slice-aggregate-read-node
 slice-aggregate-read-node c = sym (length-take-le _ _ (omega arith))

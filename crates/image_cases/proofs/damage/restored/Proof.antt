@@ -9,7 +9,7 @@ use Rattle.image_cases.proofs.damage.restored.Tie as tie
 use Rattle.image_cases.proofs.damage.restored.Reads as reads
 use Rattle.image_cases.proofs.damage.restored.Lts as lts
 use Rattle.image_cases.proofs.lines.restored.Reads as restored-reads
-use Rattle.snapshot.proofs.restore.Reads as restore-reads
+use Rattle.image_snapshot.proofs.restore.Reads as restore-reads
 
 slice-aggregate-restore : tie.Need-slice-aggregate-restore
 slice-aggregate-restore c = sym (length-take-le _ _ (omega arith))

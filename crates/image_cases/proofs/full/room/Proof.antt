@@ -9,7 +9,7 @@ use Rattle.image_cases.proofs.full.room.Tie as tie
 use Rattle.image_cases.proofs.full.room.Reads as reads
 use Rattle.image_cases.proofs.full.room.Lts as lts
 use Rattle.image_cases.proofs.lines.saved.Reads as saved-reads
-use Rattle.snapshot.proofs.save.Reads as save-reads
+use Rattle.image_snapshot.proofs.save.Reads as save-reads
 
 slice-relend-prefix-save : tie.Need-slice-relend-prefix-save
 slice-relend-prefix-save c = search needs

@@ -1,0 +1,73 @@
+-- Every state grown from the fresh network is good: it keeps the invariant, is within the ranges, and its history tells what it holds.
+-- Assumes nothing. The theorems read their statements off this one induction.
+use Prim.Native.Nat.{ℕ}
+use mathlib.Core.Bool.{true, cond}
+use mathlib.Core.List.{List, [], _∷_}
+use mathlib.Core.Path.{_≡_, refl, sym, ap, _∙_}
+use borrow.Author.Tests.{eqb-true}
+use lib.Dec.{eqb}
+use Rattle.nodeset.specs.NodeSet.{setOf}
+use Rattle.protocol.specs.Answer.{Said}
+use Rattle.calls.specs.History.{Told, State, started, entered, advance, advanced, grown}
+use Rattle.protocol.specs.Network.{Network}
+use Rattle.protocol.specs.Refusal.{returned, accepts, answer, next}
+use Rattle.protocol.specs.Step.{Event, local, step}
+use Rattle.protocol.proofs.Accepted.{Accepted, accepted}
+use Rattle.calls.proofs.HistoryLaws.{event-told}
+use Rattle.protocol.proofs.Invariant.{Inv}
+use Rattle.protocol.proofs.Said.{rule-said}
+use Rattle.protocol.proofs.StepKeeps.{step-keeps, fresh-inv}
+use Rattle.protocol.proofs.Soundness.{Fits, fresh-fits}
+use Rattle.protocol.proofs.StepFits.{step-fits}
+use Rattle.basics.proofs.Tests.{Choice, yes!, no!, choice}
+
+pub record Good (n : ℕ) (s : State) : Type 0 where
+  pub inv : Inv n (s .network)
+  pub fits : Fits n (s .network)
+  pub told : Told (s .history) (s .network)
+
+pub good-started : (n : ℕ) → Good n started
+good-started n = record { inv = fresh-inv n; fits = fresh-fits n; told = record { ups = λ u v. refl; counts = λ u v. refl } }
+
+pub accepts-accepted : (n : ℕ) (p : Network) (e : Event) → accepts n p e ≡ true → Accepted n p e
+unfolding accepts
+accepts-accepted n p e i = accepted n p e (eqb-true (returned n p e) 0 i)
+
+-- the number in an answer is the returned one
+pub answer-number : (n : ℕ) (p : Network) (e : Event) → answer n p e .number ≡ returned n p e
+unfolding answer accepts
+answer-number n p e = go (choice (eqb (returned n p e) 0))
+  where
+    go : Choice (eqb (returned n p e) 0) → answer n p e .number ≡ returned n p e
+    go (yes! i) =
+        rw i (ap (λ (s : Said). s .number) (rule-said (local n p e .rule) (setOf n (local n p e .sent))) ∙ sym (eqb-true (returned n p e) 0 i))
+    go (no! i) = rw i
+
+pub good-advance : (n : ℕ) (s : State) (e : Event) → Good n s → Good n (advance n s e)
+unfolding advance next accepts
+good-advance n s e g = go (choice (accepts n (s .network) e))
+  where
+    p : Network
+    p = s .network
+
+    said : eqb (answer n p e .number) 0 ≡ eqb (returned n p e) 0
+    said = ap (λ k. eqb k 0) (answer-number n p e)
+
+    go : Choice (accepts n p e)
+        → Good n (record { network = cond (accepts n p e) (step n p e) p; history = entered e (answer n p e) (s .history) })
+    go (yes! i) =
+        let ok = accepts-accepted n p e i in
+        rw (i, said ∙ i) (record {
+          inv = step-keeps n p e (g .inv) ok;
+          fits = step-fits n p e (g .fits) ok;
+          told = event-told n p (s .history) e (g .fits) i ok (g .told);
+        })
+    go (no! i) = rw (i, said ∙ i) g
+
+pub good-advanced : (n : ℕ) (s : State) (es : List Event) → Good n s → Good n (advanced n s es)
+unfolding advanced
+good-advanced n s [] g = g
+good-advanced n s (e ∷ es) g = good-advanced n (advance n s e) es (good-advance n s e g)
+
+pub good-grown : (n : ℕ) (es : List Event) → Good n (grown n es)
+good-grown n es = good-advanced n started es (good-started n)

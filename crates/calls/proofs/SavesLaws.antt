@@ -1,0 +1,114 @@
+-- The last save that wrote given bytes: equal bytes are told exactly, and the newest such save counts. What each call does to the saves and to the
+-- history, whatever it is made on: accepted events enter, accepted saves are kept, an accepted restore puts the history back. Assumes nothing.
+use Prim.Native.Nat.{ℕ}
+use native.Mathlib.Omega.{arith}
+use mathlib.Core.Bool.{true, cond}
+use mathlib.Core.List.{List, [], _∷_}
+use mathlib.Core.Path.{_≡_, refl, sym, ap, _∙_}
+use lib.Dec.{eqb}
+use borrow.Author.Tests.{eqb-true, eq-eqb, ne-eqb}
+use Rattle.basics.proofs.Tests.{clash, not-true-is-false, Choice, yes!, no!, choice, and-left, and-right, and-both}
+use Rattle.calls.specs.History.{entry}
+use Rattle.calls.specs.Run.{Call, event, save, restore, Returned, Calls, Saved, RunState, startOfRun, Earlier, savedAt, sameBytes, lastSave, historyAt}
+use Rattle.calls.specs.Run.{act}
+use Rattle.protocol.specs.Step.{Event}
+use Rattle.basics.proofs.AllOf.{AllOf, more}
+
+-- ---- the test of two lists of bytes is equality
+
+pub same-bytes : (xs ys : List ℕ) → sameBytes xs ys ≡ true → xs ≡ ys
+same-bytes [] [] e = refl
+same-bytes [] (y ∷ ys) e = clash e refl
+same-bytes (x ∷ xs) [] e = clash e refl
+same-bytes (x ∷ xs) (y ∷ ys) e =
+    let h = eqb-true x y (and-left (eqb x y) (sameBytes xs ys) e) in
+    let t = same-bytes xs ys (and-right (eqb x y) (sameBytes xs ys) e) in
+    cc
+
+pub bytes-same : (xs ys : List ℕ) → xs ≡ ys → sameBytes xs ys ≡ true
+bytes-same xs ys e = rw e (itself ys)
+  where
+    itself : (zs : List ℕ) → sameBytes zs zs ≡ true
+    itself [] = refl
+    itself (z ∷ zs) = and-both (eq-eqb z z refl) (itself zs)
+
+-- ---- the last save
+
+module _ {A : Type 0} (b : List ℕ) (s : Saved A) (ss : List (Saved A)) where
+  -- of two saves that wrote the same bytes, the newer one counts
+  pub newest-save : s .bytes ≡ b → lastSave b (s ∷ ss) ≡ savedAt s
+  newest-save e = rw (bytes-same b (s .bytes) (sym e))
+
+  -- a save that wrote other bytes is passed over
+  pub older-save : (s .bytes ≡ b → ⊥) → lastSave b (s ∷ ss) ≡ lastSave b ss
+  older-save d = rw (not-true-is-false (sameBytes b (s .bytes)) (λ e. d (sym (same-bytes b (s .bytes) e))))
+
+-- it wrote these bytes, and what holds of all saves holds of it
+pub found : {A : Type 0} (P : Saved A → Type 0) (b : List ℕ) (ss : List (Saved A)) → AllOf P ss → (s : Saved A) → lastSave b ss ≡ savedAt s
+    → (s .bytes ≡ b) × P s
+found P b [] k s e = let z : _≡_ {A = ℕ} 0 1 = cc in absurd (omega arith)
+found {A = A} P b (x ∷ ss) (more h k) s e = go (found P b ss k s) (choice (sameBytes b (x .bytes)))
+  where
+    go : (lastSave b ss ≡ savedAt s → (s .bytes ≡ b) × P s) → Choice (sameBytes b (x .bytes)) → (s .bytes ≡ b) × P s
+    go ih (yes! z) =
+        let q : _≡_ {A = Earlier A} (savedAt x) (savedAt s) = rw z at e in
+        let t : x ≡ s = cc in
+        rw (← t) (sym (same-bytes b (x .bytes) z), h)
+    go ih (no! z) = ih (rw z at e)
+
+-- ---- what calls do to saves and history, whatever they are made on
+
+module _ {A : Type 0} (calls : Calls A) (w : RunState A) where
+  -- right after an accepted save it is the last one that wrote its bytes
+  pub save-last : (m : ℕ) (out : List ℕ) → calls .written m out (w .now) .number ≡ 0
+      → lastSave (calls .written m out (w .now) .left) (act calls w (save m out) .saves)
+      ≡ savedAt (record { bytes = calls .written m out (w .now) .left; at = w .now; history = w .history })
+  save-last m out zero! =
+      let o = calls .written m out (w .now) in
+      rw (eq-eqb (o .number) 0 zero!, bytes-same (o .left) (o .left) refl)
+
+  -- a refused one is not kept
+  pub save-refused : (m : ℕ) (out : List ℕ) → (calls .written m out (w .now) .number ≡ 0 → ⊥) → act calls w (save m out) .saves ≡ w .saves
+  save-refused m out d = rw (ne-eqb (calls .written m out (w .now) .number) 0 d)
+
+  -- bytes once saved are not forgotten
+  pub not-forgotten : (c : Call) (b : List ℕ) (s : Saved A) → lastSave b (w .saves) ≡ savedAt s
+      → (r : Saved A) × (lastSave b (act calls w c .saves) ≡ savedAt r)
+  not-forgotten (event m e) b s l = (s, l)
+  not-forgotten (restore x) b s l = (s, l)
+  not-forgotten (save m out) b s l = go (choice (eqb (o .number) 0)) (choice (sameBytes b (o .left)))
+    where
+      o : Returned (List ℕ)
+      o = calls .written m out (w .now)
+
+      new : Saved A
+      new = record { bytes = o .left; at = w .now; history = w .history }
+
+      go : Choice (eqb (o .number) 0) → Choice (sameBytes b (o .left)) → (r : Saved A) × (lastSave b (act calls w (save m out) .saves) ≡ savedAt r)
+      go (no! i) j = (s, rw i l)
+      go (yes! i) (no! j) = (s, rw (i, j) l)
+      go (yes! i) (yes! j) = (new, rw (i, j) refl)
+
+  -- an accepted restore puts back the history of the last save that wrote its bytes; a refused one leaves it
+  pub restore-history : (b : List ℕ) (s : Saved A) → lastSave b (w .saves) ≡ savedAt s → calls .resumed b (w .now) .number ≡ 0
+      → act calls w (restore b) .history ≡ s .history
+  restore-history b s l zero! =
+      ap (λ t. cond t (historyAt (lastSave b (w .saves))) (w .history)) (eq-eqb (calls .resumed b (w .now) .number) 0 zero!) ∙ ap historyAt l
+
+  pub refused-history : (b : List ℕ) → (calls .resumed b (w .now) .number ≡ 0 → ⊥) → act calls w (restore b) .history ≡ w .history
+  refused-history b d = rw (ne-eqb (calls .resumed b (w .now) .number) 0 d)
+
+  -- an accepted event enters the history with what was said; a refused one does not, nor does a save
+  pub event-enters : (m : ℕ) (e : Event) → calls .stepped m e (w .now) .said .number ≡ 0
+      → act calls w (event m e) .history ≡ entry e (calls .stepped m e (w .now) .said) ∷ w .history
+  event-enters m e zero! = rw (eq-eqb (calls .stepped m e (w .now) .said .number) 0 zero!)
+
+  pub event-refused : (m : ℕ) (e : Event) → (calls .stepped m e (w .now) .said .number ≡ 0 → ⊥) → act calls w (event m e) .history ≡ w .history
+  event-refused m e d = rw (ne-eqb (calls .stepped m e (w .now) .said .number) 0 d)
+
+  pub save-history : (m : ℕ) (out : List ℕ) → act calls w (save m out) .history ≡ w .history
+  save-history m out = refl
+
+-- a run starts with nothing behind it
+pub start-is : {A : Type 0} (a : A) → startOfRun a ≡ record { now = a; history = []; saves = [] }
+start-is a = refl

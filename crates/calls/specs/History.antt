@@ -1,0 +1,95 @@
+-- The history: document 01, "Lists of calls". The accepted events, newest first, each with what was said.
+-- Up, and messages waiting, by the history alone.
+use Prim.Native.Nat.{ℕ, _+_, _-_}
+use mathlib.Core.Bool.{Bool, true, false, cond, _&&_}
+use mathlib.Core.List.{List, [], _∷_}
+use mathlib.Core.Path.{_≡_}
+use lib.Dec.{eqb}
+use lib.ListN.{length}
+use Rattle.nodeset.specs.NodeSet.{member, digit}
+use Rattle.protocol.specs.Answer.{Said}
+use Rattle.protocol.specs.Network.{Network, upTo, fresh}
+use Rattle.protocol.specs.Refusal.{answer, next}
+use Rattle.protocol.specs.Step.{Event, up, down, receive, home}
+
+pub record Entry : Type 0 where
+  pub event : Event
+  pub said : Said
+
+abbrev pub History : Type 0
+History = List Entry
+
+abbrev pub entry : Event → Said → Entry
+entry e s = record { event = e; said = s }
+
+-- an event that was said to be accepted enters the history
+abbrev pub entered : Event → Said → History → History
+entered e s h = cond (eqb (s .number) 0) (entry e s ∷ h) h
+
+-- ---- channel u to v is up exactly when the last up or down of u, v in the history is an up
+
+abbrev pub turned : Event → ℕ → ℕ → Bool → Bool
+turned (up a b) u v old = cond (eqb u a && eqb v b) true old
+turned (down a b) u v old = cond (eqb u a && eqb v b) false old
+turned (receive b a) u v old = old
+
+abbrev pub upIn : History → ℕ → ℕ → Bool
+upIn [] u v = false
+upIn (e ∷ h) u v = turned (e .event) u v (upIn h u v)
+
+-- ---- messages waiting: sendings less receipts, both since the last down of u, v or else the start
+
+abbrev pub isDown : Event → ℕ → ℕ → Bool
+isDown (up a b) u v = false
+isDown (down a b) u v = eqb u a && eqb v b
+isDown (receive b a) u v = false
+
+-- an event at u whose set sent to holds v
+abbrev pub isSending : Entry → ℕ → ℕ → Bool
+isSending e u v = eqb u (home (e .event)) && member (e .said .sentTo) v
+
+-- a receipt at v from u
+abbrev pub isReceipt : Event → ℕ → ℕ → Bool
+isReceipt (up a b) u v = false
+isReceipt (down a b) u v = false
+isReceipt (receive b a) u v = eqb u b && eqb v a
+
+abbrev pub sentSince : History → ℕ → ℕ → ℕ
+sentSince [] u v = 0
+sentSince (e ∷ h) u v = cond (isDown (e .event) u v) 0 (digit (isSending e u v) + sentSince h u v)
+
+abbrev pub receivedSince : History → ℕ → ℕ → ℕ
+receivedSince [] u v = 0
+receivedSince (e ∷ h) u v = cond (isDown (e .event) u v) 0 (digit (isReceipt (e .event) u v) + receivedSince h u v)
+
+-- the theorems show that nothing is cut off here: received + waiting = sent
+abbrev pub waiting : History → ℕ → ℕ → ℕ
+waiting h u v = sentSince h u v - receivedSince h u v
+
+-- the history tells what the network holds: up, and sent = received + waiting
+pub record Told (h : History) (p : Network) : Type 0 where
+  pub ups : (u v : ℕ) → upIn h u v ≡ upTo p u v
+  pub counts : (u v : ℕ) → receivedSince h u v + length (p .channel u v) ≡ sentSince h u v
+
+-- ---- a network with its history
+
+pub record State : Type 0 where
+  pub network : Network
+  pub history : History
+
+-- the fresh network; nothing has happened
+abbrev pub started : State
+started = record { network = fresh; history = [] }
+
+-- after an event, accepted or refused
+unfoldable pub advance : ℕ → State → Event → State
+advance n s e = record { network = next n (s .network) e; history = entered e (answer n (s .network) e) (s .history) }
+
+-- after a list of events, refused ones among them
+unfoldable pub advanced : ℕ → State → List Event → State
+advanced n s [] = s
+advanced n s (e ∷ es) = advanced n (advance n s e) es
+
+-- grown from the fresh network
+abbrev pub grown : ℕ → List Event → State
+grown n es = advanced n started es

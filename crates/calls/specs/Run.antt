@@ -1,0 +1,117 @@
+-- Lists of calls: document 01, "Lists of calls". Events, saves and restores, refused ones among them; every call brings its own numbers.
+-- What calls are made on (lent tables, or a network), and what each answers and leaves there, are parameters (`Calls`).
+use Prim.Native.Nat.{ℕ}
+use mathlib.Core.Bool.{Bool, true, false, cond, _&&_}
+use mathlib.Core.List.{List, [], _∷_}
+use mathlib.Core.Path.{_≡_}
+use lib.Dec.{eqb}
+use Rattle.protocol.specs.Answer.{Said, saidRefused}
+use Rattle.calls.specs.History.{History, entered}
+use Rattle.protocol.specs.Network.{Network}
+use Rattle.protocol.specs.Refusal.{answer, next}
+use Rattle.protocol.specs.Step.{Event}
+
+pub data Call : Type 0 where
+  event : ℕ → Event → Call  -- event m e: e on tables said to be of m nodes
+  save : ℕ → List ℕ → Call  -- save m out: of m nodes, into these lent bytes
+  restore : List ℕ → Call  -- restore bytes (document 01: resume)
+
+-- ---- what calls are made on
+
+-- what an event says, and what it leaves
+pub record Stepped (A : Type 0) : Type 0 where
+  pub said : Said
+  pub after : A
+
+-- the number that a save or a restore returns, and what it leaves: the bytes that it wrote, or what it was made on
+pub record Returned (A : Type 0) : Type 0 where
+  pub number : ℕ
+  pub left : A
+
+pub record Calls (A : Type 0) : Type 0 where
+  pub stepped : ℕ → Event → A → Stepped A
+  pub written : ℕ → List ℕ → A → Returned (List ℕ)
+  pub resumed : List ℕ → A → Returned A
+
+-- ---- the run
+
+-- an accepted save: the bytes that it wrote, what it was made on, and the history then
+pub record Saved (A : Type 0) : Type 0 where
+  pub bytes : List ℕ
+  pub at : A
+  pub history : History
+
+-- what the next call is made on, the history, and the accepted saves so far, newest first
+pub record RunState (A : Type 0) : Type 0 where
+  pub now : A
+  pub history : History
+  pub saves : List (Saved A)
+
+abbrev pub startOfRun : {A : Type 0} → A → RunState A
+startOfRun a = record { now = a; history = []; saves = [] }
+
+abbrev pub sameBytes : List ℕ → List ℕ → Bool
+sameBytes [] [] = true
+sameBytes [] (y ∷ ys) = false
+sameBytes (x ∷ xs) [] = false
+sameBytes (x ∷ xs) (y ∷ ys) = eqb x y && sameBytes xs ys
+
+-- the last save that wrote these bytes; of no restore that is allowed and accepted it is `never`
+pub data Earlier (A : Type 0) : Type 0 where
+  never : Earlier A
+  savedAt : Saved A → Earlier A
+
+abbrev pub lastSave : {A : Type 0} → List ℕ → List (Saved A) → Earlier A
+lastSave b [] = never
+lastSave b (s ∷ ss) = cond (sameBytes b (s .bytes)) (savedAt s) (lastSave b ss)
+
+abbrev pub historyAt : {A : Type 0} → Earlier A → History
+historyAt never = []
+historyAt (savedAt s) = s .history
+
+-- an accepted event enters the history
+abbrev pub steppedTo : {A : Type 0} → RunState A → Event → Stepped A → RunState A
+steppedTo w e o = record { now = o .after; history = entered e (o .said) (w .history); saves = w .saves }
+
+-- an accepted save is kept
+abbrev pub keeping : {A : Type 0} → RunState A → Returned (List ℕ) → List (Saved A)
+keeping w o = cond (eqb (o .number) 0) (record { bytes = o .left; at = w .now; history = w .history } ∷ w .saves) (w .saves)
+
+abbrev pub savedTo : {A : Type 0} → RunState A → Returned (List ℕ) → RunState A
+savedTo w o = record { now = w .now; history = w .history; saves = keeping w o }
+
+-- an accepted restore puts back the history as it stood at the last save that wrote these bytes
+abbrev pub restored : {A : Type 0} → RunState A → List ℕ → Returned A → RunState A
+restored w b o =
+    record { now = o .left; history = cond (eqb (o .number) 0) (historyAt (lastSave b (w .saves))) (w .history); saves = w .saves }
+
+module _ {A : Type 0} (calls : Calls A) where
+  abbrev pub act : RunState A → Call → RunState A
+  act w (event m e) = steppedTo w e (calls .stepped m e (w .now))
+  act w (save m out) = savedTo w (calls .written m out (w .now))
+  act w (restore b) = restored w b (calls .resumed b (w .now))
+
+  abbrev pub perform : RunState A → List Call → RunState A
+  perform w [] = w
+  perform w (c ∷ cs) = perform (act w c) cs
+
+  -- a restore is handed the bytes that an earlier accepted save of the list wrote, or any bytes that it refuses
+  pub data Fair (w : RunState A) : Call → Type 0 where
+    fairEvent : (m : ℕ) (e : Event) → Fair w (event m e)
+    fairSave : (m : ℕ) (out : List ℕ) → Fair w (save m out)
+    fairSaved : (b : List ℕ) (s : Saved A) → lastSave b (w .saves) ≡ savedAt s → Fair w (restore b)
+    fairRefused : (b : List ℕ) → (calls .resumed b (w .now) .number ≡ 0 → ⊥) → Fair w (restore b)
+
+  pub data AllFair : RunState A → List Call → Type 0 where
+    fairNil : {w : RunState A} → AllFair w []
+    fairCons : {w : RunState A} {c : Call} {cs : List Call} → Fair w c → AllFair (act w c) cs → AllFair w (c ∷ cs)
+
+-- ---- calls on a network of n nodes, by the meaning; how an image is written and read are parameters
+
+module _ (write : ℕ → List ℕ → Network → Returned (List ℕ)) (read : List ℕ → Network → Returned Network) (n : ℕ) where
+  -- an event with another n is refused with 1
+  abbrev pub stepMeant : ℕ → Event → Network → Stepped Network
+  stepMeant m e p = cond (eqb m n) (record { said = answer n p e; after = next n p e }) (record { said = saidRefused 1 0 0; after = p })
+
+  abbrev pub meant : Calls Network
+  meant = record { stepped = stepMeant; written = write; resumed = read }

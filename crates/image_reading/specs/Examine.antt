@@ -1,0 +1,33 @@
+-- All checks of an image behind its header, in document 01's order: the walk (2 or 12), left bytes and pad (12), contents (2).
+-- Contents are those of the tables that the image's records make: the first fault, u ascending, then v ascending.
+use Prim.Native.Nat.{ℕ, _≤_, _<_, _^_}
+use mathlib.Core.Bool.{cond}
+use mathlib.Core.List.{List}
+use lib.ListN.{length}
+use Rattle.image.specs.Places.{fieldIn, channelPlace, imageEnd, tablesIn}
+use Rattle.lent.specs.Check.{SaidCheck, checked, firstFault}
+use Rattle.protocol.specs.Network.{Two}
+use Rattle.image_reading.specs.declared.Examined.{Examined}
+use Rattle.image_reading.specs.declared.Examined.the-variants.{Sound, Fault, BadEnd}
+use Rattle.image_reading.specs.declared.Walk.{Walk}
+use Rattle.image_reading.specs.declared.Walk.the-variants.{At, Over, Cut}
+use Rattle.image_reading.specs.Walk.{saidWalk, walk, endsAt}
+
+abbrev pub saidExamined : Examined → SaidCheck
+saidExamined Sound = checked 0 0 0
+saidExamined (Fault u v) = checked 2 u v
+saidExamined BadEnd = checked 12 0 0
+
+unfoldable pub afterWalk : ℕ → ℕ → ℕ → List ℕ → Walk → SaidCheck
+afterWalk h d n l (At q) = cond (endsAt l q) (firstFault n (tablesIn h d n l)) (checked 12 0 0)
+afterWalk h d n l (Over u v) = saidWalk (Over u v)
+afterWalk h d n l Cut = saidWalk Cut
+
+unfoldable pub examined : ℕ → ℕ → ℕ → List ℕ → SaidCheck
+examined h d n l = afterWalk h d n l (walk h d n l)
+
+-- what an accepted walk shows: every channel's count is at most 8, and all stands inside the image
+pub record Walkable (h d n : ℕ) (l : List ℕ) : Type 0 where
+  pub inside : imageEnd h d n l ≤ length l
+  pub small : imageEnd h d n l < 2 ^ 30
+  pub few : (u v : ℕ) → Two n u v → fieldIn l (channelPlace h d n l u v) 4 ≤ 8

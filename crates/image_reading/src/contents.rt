@@ -1,0 +1,96 @@
+// The contents: every place of the tables that the records make, tested record by record as the lent tables are.
+// Assumes the bounds that each `requires` states.
+ghost use mathlib.Core.Path.{_≡_};
+ghost use Prim.Native.Nat.{_≤_, _<_};
+ghost use lib.ListN.{length};
+ghost use Rattle.bits.specs.Bits.{unpacked};
+ghost use Rattle.image.specs.Parts.{Depth};
+ghost use Rattle.image.specs.Places.{channelsNext, tablesIn};
+ghost use Rattle.lent.specs.Check.{faultInRow, firstFault};
+ghost use Rattle.protocol.specs.Network.{Node};
+ghost use Rattle.image_reading.specs.Cells.{ChannelsIn};
+ghost use Rattle.image_reading.specs.Examine.{Walkable, saidExamined};
+ghost use Rattle.image_reading.specs.Search.{rowHolds, Searched};
+ghost use Rattle.tables.specs.Tables.{width, cellWidth};
+use super::Examined;
+use super::Walk;
+
+// Room for one row of at most 16 nodes, and for one cell.
+fn blank_row() -> [u32; 115]
+    ensures { λ r. ⌜ length r ≡ 115 ⌝ }
+{
+    [0; 115]
+}
+
+fn blank_cell() -> [u32; 65]
+    ensures { λ r. ⌜ length r ≡ 65 ⌝ }
+{
+    [0; 65]
+}
+
+// The places of row u, whose channels start at a bit place: the place behind them, or `Over` with the first pair at fault.
+fn fault_in_row(
+    image: &[u8],
+    at: usize,
+    depth: u8,
+    n: u32,
+    u: u32,
+    row: &[u32],
+    cell: &mut [u32],
+) -> Walk
+    requires { ⌜ Depth depth × (n ≤ 16) × Node n u × (length (now row) ≡ width n)
+        × (length (now cell) ≡ cellWidth) × ChannelsIn depth n (unpacked (now image)) u at ⌝ }
+    ensures { λ r. ⌜ Searched (faultInRow (rowHolds depth n (unpacked (now (image .entry))) (now (row .entry)) at) u 1 n)
+        (channelsNext depth n (unpacked (now (image .entry))) u at) r ⌝ }
+{
+    let mut place = at;
+    let mut v: u32 = 0;
+    while v < n {
+        place = super::filling::read_cell(image, place, depth, u, v + 1, cell);
+        if !pairs::pair_sound(n, u, v + 1, row, cell) {
+            return Walk::Over(u, v + 1);
+        }
+        v += 1;
+    }
+    Walk::At(place)
+}
+
+// Row by row, each read into `row`, and its cells one by one into `cell`.
+fn first_fault(
+    image: &[u8],
+    h: usize,
+    depth: u8,
+    n: u32,
+    row: &mut [u32],
+    cell: &mut [u32],
+) -> Examined
+    requires { ⌜ Depth depth × (n ≤ 16) × (h < 4096) × (length (now row) ≡ width n)
+        × (length (now cell) ≡ cellWidth) × Walkable h depth n (unpacked (now image)) ⌝ }
+    ensures { λ r. ⌜ saidExamined r ≡ firstFault n (tablesIn h depth n (unpacked (now (image .entry)))) ⌝ }
+{
+    let k = n as usize;
+    let step = 64 + (80 + depth as usize) * k;
+    let mut place = h + k * step;
+    let mut u: u32 = 0;
+    while u < n {
+        image::rows::get_row(image, h + u as usize * step, depth, k, row);
+        let w = fault_in_row(image, place, depth, n, u + 1, row, cell);
+        let Walk::At(next) = w else {
+            return super::walking::stopped(w);
+        };
+        place = next;
+        u += 1;
+    }
+    Examined::Sound
+}
+
+// The first pair at fault, u ascending, then v ascending.
+pub fn contents(image: &[u8], h: usize, depth: u8, n: u32) -> Examined
+    requires { ⌜ Depth depth × (n ≤ 16) × (h < 4096) × Walkable h depth n (unpacked (now image)) ⌝ }
+    ensures { λ r. ⌜ saidExamined r ≡ firstFault n (tablesIn h depth n (unpacked (now (image .entry)))) ⌝ }
+{
+    let mut row = blank_row();
+    let mut cell = blank_cell();
+    let w = 3 + 7 * (n as usize);
+    first_fault(image, h, depth, n, &mut row[..w], &mut cell)
+}

@@ -1,0 +1,109 @@
+-- Saving what was restored gives the bytes back: the tables that an accepted image fills pass the check, and their image is it again.
+-- Assumes that the bytes are bytes (below 256).
+use Prim.Native.Nat.{ℕ, suc}
+use native.Mathlib.Omega.{arith}
+use mathlib.Core.List.{List}
+use mathlib.Core.Path.{_≡_, refl, sym, _∙_}
+use Rattle.bits.specs.Bits.{field, unpacked}
+use Rattle.bits.proofs.Numbers.{Below}
+use Rattle.bits.proofs.Bytes.{below-unpacked, length-unpacked}
+use Rattle.image.specs.Image.{image}
+use Rattle.image.specs.Places.{fieldIn, recordsIn, tablesIn}
+use Rattle.image.specs.Records.{recordsOf}
+use Rattle.image.proofs.ImageBits.{same-image}
+use Rattle.image.proofs.ReadBack.{Agree}
+use Rattle.image.proofs.TablesRecords.{Shaped, length-words, network-tables, tables-tell, rows-length-is, cells-length}
+use Rattle.image.proofs.Whole.{Accepted, image-of-read}
+use Rattle.lent.specs.Check.{checkOn}
+use Rattle.lent.proofs.CheckLaws.{is-sized, check-places}
+use Rattle.lent.proofs.SoundLoads.{sound-loads, load-inside}
+use Rattle.lent.proofs.SoundTables.{Words, sound-fits as tables-fit}
+use Rattle.protocol.specs.Network.{Network}
+use Rattle.protocol.proofs.Soundness.{Fits, diagonal}
+use Rattle.protocol.proofs.SoundStep.{sound-fits}
+use Rattle.tables.specs.Fit.{TablesFit}
+use Rattle.tables.specs.Load.{load}
+use Rattle.tables.specs.Tables.{Tables, Sized}
+use Rattle.tables.proofs.Back.{words-length}
+use Rattle.tables.proofs.TablesLaws.{tables-back}
+use Rattle.image_writing.proofs.WordsLaws.{message-words}
+use Rattle.image_snapshot.specs.Restore.{restoreOn}
+use Rattle.image_snapshot.specs.Save.{put, saveChecked, saveOn}
+use Rattle.image_snapshot.proofs.AcceptedLaws.{HeaderGood, ExaminedGood, restore-good}
+use Rattle.image_reading.proofs.ShapeLaws.{records-shaped, records-words}
+
+-- a network's records
+network-shaped : (n : ℕ) (p : Network) → Fits n p → Shaped n (recordsOf n p)
+unfolding recordsOf
+network-shaped n p fits = record {
+  heights = λ i j l m. words-length (p .height (suc i) (suc j));
+  messages = λ i j l m d. message-words (p .channel (suc i) (suc j));
+  few = λ i j l m d. omega (arith, length-words (p .channel (suc i) (suc j)), fits .lengths (suc i) (suc j));
+}
+
+-- ---- an image that was accepted, of n nodes by its header
+
+module _ (xs : List ℕ) (bytes : Below 256 xs) (head : HeaderGood xs) (good : ExaminedGood (field xs 16 5) (unpacked xs)) where
+  shaped : Shaped (field xs 16 5) (recordsIn 32 16 (field xs 16 5) (unpacked xs))
+  shaped = records-shaped 32 16 (field xs 16 5) (unpacked xs) (good .walkable)
+
+  pub size : Sized (field xs 16 5) (tablesIn 32 16 (field xs 16 5) (unpacked xs))
+  unfolding tablesIn
+  size = record {
+    low = head .low;
+    few = head .few;
+    nodes = rows-length-is (field xs 16 5) (recordsIn 32 16 (field xs 16 5) (unpacked xs)) shaped;
+    channels = cells-length (field xs 16 5) (recordsIn 32 16 (field xs 16 5) (unpacked xs)) shaped;
+  }
+
+  -- the tables pass the check
+  pub passes : checkOn (field xs 16 5) (tablesIn 32 16 (field xs 16 5) (unpacked xs)) .number ≡ 0
+  passes = rw (← check-places (field xs 16 5) (tablesIn 32 16 (field xs 16 5) (unpacked xs)) (is-sized _ _ size)) (good .sound)
+
+  words : Words (tablesIn 32 16 (field xs 16 5) (unpacked xs))
+  words = records-words 32 16 (field xs 16 5) (unpacked xs) (below-unpacked xs) (omega arith) (omega arith) (good .walkable)
+
+  tables-fit-is : TablesFit (field xs 16 5) (tablesIn 32 16 (field xs 16 5) (unpacked xs))
+  tables-fit-is = tables-fit _ _ words passes
+
+  p : Network
+  p = load (field xs 16 5) (tablesIn 32 16 (field xs 16 5) (unpacked xs))
+
+  fits : Fits (field xs 16 5) p
+  unfolding p
+  fits = sound-fits _ _ (load-inside _ _ tables-fit-is) (sound-loads _ _ words passes)
+
+  agree : Agree (field xs 16 5) (recordsOf (field xs 16 5) p) (recordsIn 32 16 (field xs 16 5) (unpacked xs))
+  unfolding tablesIn p
+  agree =
+      tables-tell (field xs 16 5) (recordsOf (field xs 16 5) p) (recordsIn 32 16 (field xs 16 5) (unpacked xs))
+      (network-shaped _ p fits) shaped
+      (network-tables _ p (diagonal _ p fits) ∙ tables-back _ _ tables-fit-is)
+
+  accepted : Accepted 1 32 16 (field xs 16 5) xs
+  unfolding field fieldIn
+  accepted = record {
+    bytes = bytes;
+    is-version = head .version;
+    is-header = head .header;
+    is-count = refl;
+    spare = head .spare;
+    inside = rw (← length-unpacked xs) (good .walkable .inside);
+    no-more = rw (← length-unpacked xs) (good .no-more);
+    long = omega (arith, head .long);
+    pad = good .pad;
+  }
+
+  -- and their image is the bytes again
+  pub image-again : image (field xs 16 5) (load (field xs 16 5) (tablesIn 32 16 (field xs 16 5) (unpacked xs))) ≡ xs
+  unfolding image p
+  image-again =
+      same-image (field xs 16 5) (recordsOf (field xs 16 5) p) (recordsIn 32 16 (field xs 16 5) (unpacked xs)) agree 16 1 32
+      ∙ sym (image-of-read 1 32 16 (field xs 16 5) (omega arith) (omega arith) (omega arith) xs accepted)
+
+pub save-restored : (xs : List ℕ) → Below 256 xs → (t : Tables) → restoreOn xs t .said .number ≡ 0
+    → (out : List ℕ) → saveOn (field xs 16 5) (restoreOn xs t .after) out ≡ put xs out
+unfolding saveOn saveChecked
+save-restored xs bytes t zero out =
+    let g = restore-good xs t zero in
+    rw (g .after-is, passes xs bytes (g .header) (g .contents), image-again xs bytes (g .header) (g .contents))

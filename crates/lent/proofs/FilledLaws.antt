@@ -1,0 +1,237 @@
+-- Tables in which every row is a fresh node's and every cell is empty hold the fresh network; the rows are written one by one.
+-- Assumes nothing.
+use Prim.Native.Nat.{ℕ, zero, suc, _+_, _-_, _*_, _≤_, _<_}
+use native.Mathlib.Omega.{arith}
+use mathlib.Core.Bool.{true, false, cond}
+use mathlib.Core.List.{List, _++_}
+use mathlib.Core.Logic.{_⊎_, inl, inr}
+use mathlib.Core.Path.{_≡_, refl, sym, ap, _∙_, fun-ext}
+use lib.Dec.{eqb}
+use lib.ListN.{getD, length, take, drop, replicate, length-replicate}
+use lib.Pow.{pow-pos}
+use borrow.Author.Tests.{eq-eqb, ne-eqb}
+use Rattle.height.specs.Height.{zeroHeight}
+use Rattle.height.specs.Words.{heightAt, deltaOf}
+use Rattle.height.specs.declared.Height.{Height}
+use Rattle.nodeset.specs.NodeSet.{member}
+use Rattle.nodeset.proofs.Members.{none-in-zero}
+use Rattle.protocol.specs.Network.{Node, atNodes, atPairs, freshHeight, fresh}
+use Rattle.basics.specs.Functions.{update}
+use Rattle.protocol.proofs.Restrict.{nodes-is, pairs-is, same-nodes, same-pairs}
+use Rattle.basics.proofs.Tests.{equal?}
+use Rattle.basics.proofs.FunctionsLaws.{update-at, update-off}
+use Rattle.tables.specs.Fit.{RowFits, TablesFit}
+use Rattle.tables.specs.Cell.{emptied, queue}
+use Rattle.tables.specs.Load.{load, tablesOf, clockAt, neighborsAt, formingAt, heightsAt, messagesOn}
+use Rattle.tables.specs.Row.{clockIn, neighborsIn, formingIn, heightIn, rowWith}
+use Rattle.tables.specs.Rows.{rowAt}
+use Rattle.tables.specs.Tables.{Tables, tables, sized, Sized, width, cellWidth, nodeOf, putNode, pairOf, channelOf}
+use Rattle.tables.proofs.CellLaws.{emptied-fits, queue-emptied}
+use Rattle.tables.proofs.RowLaws.{with-fits, with-clock, with-neighbors, with-forming, with-heights}
+use Rattle.tables.proofs.RowsLaws.{row-fits, pair-lt, node-length, node-put, node-other, node-put-length, part-row, changed-row}
+use Rattle.tables.proofs.TablesLaws.{tables-back}
+use Rattle.tables.proofs.WordRuns.{part-run, run-zero}
+use Rattle.tables.proofs.Wordy.{Wordy}
+use Rattle.lent.specs.Check.{checked}
+use Rattle.lent.specs.Fresh.{filled, freshOn}
+
+-- ---- zero words
+
+zero-word : (k i : ℕ) → getD (replicate {A = ℕ} k 0) i 0 ≡ 0
+zero-word zero i = refl
+zero-word (suc k) zero = refl
+zero-word (suc k) (suc i) = zero-word k i
+
+zero-row : (w size i : ℕ) → i < size → rowAt w i (replicate (size * w) 0) ≡ replicate w 0
+unfolding rowAt
+zero-row w size i l =
+    let f : i * w + w ≤ size * w = row-fits w i size l in
+    part-run w (i * w) (replicate (size * w) 0) (omega (arith, length-replicate {A = ℕ} (size * w) 0))
+    ∙ run-zero w (i * w) (replicate (size * w) 0) (λ j q. zero-word (size * w) (i * w + j))
+
+zero-fits : (n : ℕ) → RowFits n (replicate (width n) 0)
+zero-fits n = record {
+  wide = length-replicate {A = ℕ} (width n) 0;
+  neighbors-lt = rw (zero-word (width n) 1) (pow-pos n);
+  forming-lt = rw (zero-word (width n) 2) (pow-pos n);
+  deltas = λ k l. rw (zero-word (width n) (3 + k * 7 + 3)) (omega arith);
+}
+
+zero-heights : (n z : ℕ) → heightIn (replicate (width n) 0) z ≡ zeroHeight
+unfolding heightIn heightAt deltaOf
+zero-heights n zero = refl
+zero-heights n (suc k) =
+    let at = zero-word (width n) in
+    rw (at (3 + k * 7), at (3 + k * 7 + 1), at (3 + k * 7 + 2), at (3 + k * 7 + 3), at (3 + k * 7 + 4), at (3 + k * 7 + 5), at (3 + k * 7 + 6))
+
+-- ---- a fresh row
+
+-- zero words but the node's own height
+unfoldable pub freshRow : ℕ → ℕ → List ℕ
+freshRow n u = rowWith (replicate (width n) 0) 0 0 0 u (freshHeight u) u (freshHeight u)
+
+fresh-wordy : (u : ℕ) → Wordy (freshHeight u)
+fresh-wordy u = record { delta = omega arith; nlts = refl }
+
+module _ (n i : ℕ) (inside : i < n) where
+  pub fresh-fits : RowFits n (freshRow n (suc i))
+  unfolding freshRow
+  fresh-fits =
+      with-fits n (replicate (width n) 0) (zero-fits n) 0 0 0 i i inside inside (freshHeight (suc i)) (freshHeight (suc i))
+      (fresh-wordy (suc i)) (fresh-wordy (suc i)) (pow-pos n) (pow-pos n)
+
+  fresh-clock : clockIn (freshRow n (suc i)) ≡ 0
+  unfolding freshRow
+  fresh-clock =
+      with-clock n (replicate (width n) 0) (zero-fits n) 0 0 0 i i inside inside (freshHeight (suc i)) (freshHeight (suc i))
+      (fresh-wordy (suc i)) (fresh-wordy (suc i))
+
+  fresh-neighbors : neighborsIn (freshRow n (suc i)) ≡ 0
+  unfolding freshRow
+  fresh-neighbors =
+      with-neighbors n (replicate (width n) 0) (zero-fits n) 0 0 0 i i inside inside (freshHeight (suc i)) (freshHeight (suc i))
+      (fresh-wordy (suc i)) (fresh-wordy (suc i))
+
+  fresh-forming : formingIn (freshRow n (suc i)) ≡ 0
+  unfolding freshRow
+  fresh-forming =
+      with-forming n (replicate (width n) 0) (zero-fits n) 0 0 0 i i inside inside (freshHeight (suc i)) (freshHeight (suc i))
+      (fresh-wordy (suc i)) (fresh-wordy (suc i))
+
+  fresh-heights : heightIn (freshRow n (suc i)) ≡ fresh .height (suc i)
+  unfolding freshRow
+  fresh-heights =
+      with-heights n (replicate (width n) 0) (zero-fits n) 0 0 0 i i inside inside (freshHeight (suc i)) (freshHeight (suc i))
+      (fresh-wordy (suc i)) (fresh-wordy (suc i))
+      ∙ fun-ext (λ z. at z (equal? z (suc i)))
+    where
+      once : ℕ → Height
+      once = update (heightIn (replicate (width n) 0)) (suc i) (freshHeight (suc i))
+
+      at : (z : ℕ) → (z ≡ suc i) ⊎ (z ≡ suc i → ⊥)
+          → update once (suc i) (freshHeight (suc i)) z ≡ cond (eqb (suc i) z) (freshHeight (suc i)) zeroHeight
+      at z (inl e) = rw (e, update-at once (suc i) (freshHeight (suc i)), eq-eqb (suc i) (suc i) refl)
+      at z (inr d) =
+          rw (update-off once (suc i) (freshHeight (suc i)) z d, ne-eqb (suc i) z (λ e. d (sym e)))
+          (update-off (heightIn (replicate (width n) 0)) (suc i) (freshHeight (suc i)) z d ∙ zero-heights n z)
+
+-- ---- tables of fresh rows and empty cells
+
+nodes-are : {A : Type 0} (n : ℕ) (f g : ℕ → A) → ((u : ℕ) → Node n u → f u ≡ g u) → atNodes n f g ≡ g
+nodes-are n f g h = same-nodes n f g g h ∙ nodes-is n g g (λ u d. refl)
+
+pairs-are : {A : Type 0} (n : ℕ) (f g : ℕ → ℕ → A) → ((u v : ℕ) → Node n u → Node n v → f u v ≡ g u v) → atPairs n f g ≡ g
+pairs-are n f g h = same-pairs n f g g h ∙ pairs-is n g g (λ u v d. refl) (λ u v a d. refl)
+
+module _ (n : ℕ) (t : Tables) (size : Sized n t) (rows-are : (u : ℕ) → Node n u → nodeOf n u (t .nodes) ≡ freshRow n u)
+    (cells-are : (u v : ℕ) → Node n u → Node n v → channelOf n u v (t .channels) ≡ emptied) where
+  -- what holds of a fresh row holds of each node's row
+  at-row : (P : ℕ → List ℕ → Type 0) → ((i : ℕ) → i < n → P (suc i) (freshRow n (suc i))) → (u : ℕ) → Node n u → P u (nodeOf n u (t .nodes))
+  at-row P h zero a = absurd (omega (arith, a .low))
+  at-row P h (suc i) a = rw (rows-are (suc i) a) (h i (a .high))
+
+  pub fresh-tables-fit : TablesFit n t
+  fresh-tables-fit = record {
+    size = size;
+    rows = at-row (λ u row. RowFits n row) (fresh-fits n);
+    cells = λ u v a b. rw (cells-are u v a b) emptied-fits;
+  }
+
+  pub fresh-loaded : load n t ≡ fresh
+  unfolding load
+  fresh-loaded = λ i. record {
+    clock = nodes-are n (clockAt n t) (fresh .clock) (at-row (λ u row. clockIn row ≡ 0) (fresh-clock n)) i;
+    neighbors = nodes-are n (neighborsAt n t) (fresh .neighbors)
+        (at-row (λ u row. member (neighborsIn row) ≡ (λ v. false)) (λ j l. ap member (fresh-neighbors n j l) ∙ fun-ext none-in-zero)) i;
+    forming = nodes-are n (formingAt n t) (fresh .forming)
+        (at-row (λ u row. member (formingIn row) ≡ (λ v. false)) (λ j l. ap member (fresh-forming n j l) ∙ fun-ext none-in-zero)) i;
+    height = nodes-are n (heightsAt n t) (fresh .height) (at-row (λ u row. heightIn row ≡ fresh .height u) (fresh-heights n)) i;
+    channel = pairs-are n (messagesOn n t) (fresh .channel) (λ u v a b. ap queue (cells-are u v a b) ∙ queue-emptied) i;
+  }
+
+  pub fresh-tables : t ≡ tablesOf n fresh
+  fresh-tables = sym (tables-back n t fresh-tables-fit) ∙ ap (tablesOf n) fresh-loaded
+
+-- ---- the rows written one by one
+
+-- with row u next: the rows below u are fresh, the others are zero
+pub record FilledTo (n u : ℕ) (nodes : List ℕ) : Type 0 where
+  pub low : 1 ≤ u
+  pub high : u ≤ n + 1
+  pub few : n ≤ 16
+  pub size : length nodes ≡ n * width n
+  pub written : (x : ℕ) → Node n x → x < u → nodeOf n x nodes ≡ freshRow n x
+  pub blank : (x : ℕ) → Node n x → u ≤ x → nodeOf n x nodes ≡ replicate (width n) 0
+
+pub filled-none : (n : ℕ) (nodes : List ℕ) → n ≤ 16 → nodes ≡ replicate (n * width n) 0 → FilledTo n 1 nodes
+filled-none n nodes few e = record {
+  low = omega arith;
+  high = omega arith;
+  few = few;
+  size = ap length e ∙ length-replicate {A = ℕ} (n * width n) 0;
+  written = λ x a l. absurd (omega (arith, a .low));
+  blank = λ x a l. ap (nodeOf n x) e ∙ zero-row (width n) n (x - 1) (omega (arith, a .low, a .high));
+}
+
+module _ (n u : ℕ) (nodes : List ℕ) (f : FilledTo n u nodes) (inside : u ≤ n) where
+  pub next-node : Node n u
+  next-node = record { low = f .low; high = inside }
+
+  row-written : rowWith (nodeOf n u nodes) 0 0 0 u (freshHeight u) u (freshHeight u) ≡ freshRow n u
+  unfolding freshRow
+  row-written = rw (f .blank u next-node (omega arith))
+
+  fresh-length : length (freshRow n u) ≡ width n
+  fresh-length = go u next-node
+    where
+      go : (x : ℕ) → Node n x → length (freshRow n x) ≡ width n
+      go zero a = absurd (omega (arith, a .low))
+      go (suc i) a = fresh-fits n i (a .high) .wide
+
+  -- the part nodes[a..e] that is lent
+  pub part-wide : {a e : ℕ} → a ≡ (u - 1) * width n → e ≡ a + width n → length (take (e - a) (drop a nodes)) ≡ width n
+  part-wide starts ends = ap length (part-row (width n) (u - 1) nodes starts ends) ∙ node-length n u next-node nodes (f .size)
+
+  -- nodes after that part came back as the row of u
+  pub filled-one : {a e : ℕ} {h : Height} {r next : List ℕ} → a ≡ (u - 1) * width n → e ≡ a + width n → h ≡ freshHeight u
+      → r ≡ rowWith (take (e - a) (drop a nodes)) 0 0 0 u h u h → next ≡ take a nodes ++ (r ++ drop (e - a) (drop a nodes))
+      → FilledTo n (u + 1) next
+  filled-one {a} {e} {h} {r} {next} starts ends is-fresh written back = record {
+    low = omega arith;
+    high = omega (arith, f .high);
+    few = f .few;
+    size = rw put (node-put-length n u next-node nodes (f .size) (freshRow n u) fresh-length);
+    written = λ x b l. at x b (equal? x u) l;
+    blank = λ x b l.
+        rw put (node-other n u next-node nodes (f .size) (freshRow n u) fresh-length x b (λ q. omega arith) ∙ f .blank x b (omega arith));
+  }
+    where
+      put : next ≡ putNode n u (freshRow n u) nodes
+      put =
+          back ∙ changed-row (width n) (u - 1) nodes starts ends (λ row. rowWith row 0 0 0 u (freshHeight u) u (freshHeight u))
+          (written ∙ ap (λ (k : Height). rowWith (take (e - a) (drop a nodes)) 0 0 0 u k u k) is-fresh)
+          ∙ ap (λ (row : List ℕ). putNode n u row nodes) row-written
+
+      at : (x : ℕ) → Node n x → (x ≡ u) ⊎ (x ≡ u → ⊥) → x < u + 1 → nodeOf n x next ≡ freshRow n x
+      at x b (inl q) l = rw (put, q) (node-put n u next-node nodes (f .size) (freshRow n u) fresh-length)
+      at x b (inr d) l =
+          rw put (node-other n u next-node nodes (f .size) (freshRow n u) fresh-length x b d ∙ f .written x b (omega arith))
+
+pub filled-all : (n u : ℕ) (nodes channels : List ℕ) → 1 ≤ n → FilledTo n u nodes → n < u
+    → channels ≡ replicate (n * n * cellWidth) 0 → tables nodes channels ≡ tablesOf n fresh
+filled-all n u nodes channels low f past empty =
+    fresh-tables n (tables nodes channels)
+    (record { low = low; few = f .few; nodes = f .size; channels = ap length empty ∙ length-replicate {A = ℕ} (n * n * cellWidth) 0 })
+    (λ x a. f .written x a (omega (arith, a .high)))
+    (λ x y a b. ap (channelOf n x y) empty ∙ zero-row cellWidth (n * n) (pairOf n x y) (pair-lt n x y a b))
+
+-- ---- the two cases of `fresh`
+
+module _ (n : ℕ) (t : Tables) where
+  pub fresh-sized : {s : Tables} → sized n t ≡ true → s ≡ tablesOf n fresh → filled (checked 0 0 0) s ≡ freshOn n t
+  unfolding freshOn
+  fresh-sized e h = rw (e, h)
+
+  pub fresh-sizes : sized n t ≡ false → filled (checked 1 0 0) t ≡ freshOn n t
+  unfolding freshOn
+  fresh-sizes e = rw e

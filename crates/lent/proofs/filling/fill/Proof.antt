@@ -1,0 +1,116 @@
+-- `lent::filling::fill` meets its contract. The invariant: the rows below u are written, the others are zero.
+-- The measure is how many rows are left. Assumes nothing.
+use Prim.Native.Nat.{ℕ, _+_, _-_}
+use native.Mathlib.Omega.{arith}
+use mathlib.Core.Path.{refl, ap, sym, _∙_}
+use lib.ListN.{length, replicate, length-replicate}
+use borrow.Author.Needs.{needs}
+use Rattle.lent.proofs.FilledLaws.{FilledTo, filled-none, next-node, part-wide, filled-one, filled-all}
+use Rattle.lent.proofs.filling.fill.Statement.{statement}
+use Rattle.lent.proofs.filling.fill.Tie as tie
+
+abbrev Inv-loop : tie.InvT-loop
+Inv-loop n nodes₀ channels w u₀ nodes u = FilledTo n u nodes
+
+abbrev μ-loop : tie.MeasureT-loop
+μ-loop n nodes₀ channels w u₀ nodes u = n + 1 - u
+
+fill-zero-requires : tie.Need-fill-zero-requires Inv-loop μ-loop
+fill-zero-requires c κs = search needs
+
+fill-zero-requires-2 : tie.Need-fill-zero-requires-2 Inv-loop μ-loop
+fill-zero-requires-2 c κs = search needs
+
+mul-w : tie.Need-mul-w Inv-loop μ-loop
+mul-w c = omega (arith, c .before .before .before .before .before .before .before .before .before .before .pre .few)
+
+add-w : tie.Need-add-w Inv-loop μ-loop
+add-w c = omega (arith, c .before .before .before .before .before .before .before .before .before .before .pre .few)
+
+loop-holds : tie.Need-loop-holds Inv-loop μ-loop
+loop-holds c =
+    let s = c .before .before .before .before .before .before .before .before .before .before in
+    filled-none _ _ (s .pre .few)
+    (c .before .before .before .before .before .before .fill-zero .ensures ∙ ap (λ (k : ℕ). replicate k 0) (s .pre .nodes))
+
+fresh-height-requires : tie.Need-fresh-height-requires Inv-loop μ-loop
+fresh-height-requires c κs = search needs
+
+node-start-requires : tie.Need-node-start-requires Inv-loop μ-loop
+node-start-requires c κs = (c .before .before .loop .inv .few, next-node _ _ _ (c .before .before .loop .inv) (c .before .loop-test .taken))
+
+add-e : tie.Need-add-e Inv-loop μ-loop
+add-e c = omega (arith, c .node-start .ensures .2, c .before .before .before .loop .inv .few)
+
+mul-write-row : tie.Need-mul-write-row Inv-loop μ-loop
+mul-write-row c = omega (arith, c .node-start .ensures .2)
+
+sub-write-row : tie.Need-sub-write-row Inv-loop μ-loop
+sub-write-row c = omega arith
+
+part-write-row-start : tie.Need-part-write-row-start Inv-loop μ-loop
+part-write-row-start c = omega arith
+
+part-write-row-end : tie.Need-part-write-row-end Inv-loop μ-loop
+part-write-row-end c = omega (arith, c .node-start .ensures .1, c .before .before .before .loop .inv .size)
+
+write-row-requires : tie.Need-write-row-requires Inv-loop μ-loop
+write-row-requires c κs =
+    let inv = c .before .before .before .before .loop .inv in
+    let taken = c .before .before .before .loop-test .taken in
+    let height = c .before .before .fresh-height .ensures in
+    let node = next-node _ _ _ inv taken in
+    (inv .few, node, node, part-wide _ _ _ inv taken (c .before .node-start .ensures .0) refl, height .1, height .1)
+
+add-u : tie.Need-add-u Inv-loop μ-loop
+add-u c = omega (arith, c .before .before .before .before .before .before .before .loop .inv .few)
+
+loop-less : tie.Need-loop-less Inv-loop μ-loop
+loop-less c = omega arith
+
+loop-again : tie.Need-loop-again Inv-loop μ-loop
+loop-again c =
+    let inv = c .before .before .before .before .before .before .before .loop .inv in
+    let taken = c .before .before .before .before .before .before .loop-test .taken in
+    filled-one _ _ _ inv taken (c .before .before .before .before .node-start .ensures .0) refl
+    (c .before .before .before .before .before .fresh-height .ensures .0) (c .before .before .write-row .ensures) refl
+
+same-length : tie.Need-same-length Inv-loop μ-loop
+same-length c =
+    let s = c .before .before .before .before .before .before .before .before .before .before .before .before in
+    c .before .loop .inv .size ∙ sym (s .pre .nodes)
+
+same-length-2 : tie.Need-same-length-2 Inv-loop μ-loop
+same-length-2 c = ap length (c .before .before .before .before .fill-zero2 .ensures) ∙ length-replicate {A = ℕ} _ 0
+
+returns : tie.Need-returns Inv-loop μ-loop
+returns c =
+    let s = c .before .before .before .before .before .before .before .before .before .before .before .before in
+    filled-all _ _ _ _ (s .pre .low) (c .before .loop .inv) (c .loop-test .left)
+    (c .before .before .before .before .fill-zero2 .ensures ∙ ap (λ (k : ℕ). replicate k 0) (s .pre .channels))
+
+pub fill-spec : {M : Type 1} → statement M
+fill-spec =
+    tie.close
+    (tie.spec
+    Inv-loop
+    μ-loop
+    fill-zero-requires
+    fill-zero-requires-2
+    mul-w
+    add-w
+    loop-holds
+    fresh-height-requires
+    node-start-requires
+    add-e
+    mul-write-row
+    sub-write-row
+    part-write-row-start
+    part-write-row-end
+    write-row-requires
+    add-u
+    loop-less
+    loop-again
+    same-length
+    same-length-2
+    returns)

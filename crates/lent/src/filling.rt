@@ -1,0 +1,36 @@
+// The fresh network written into tables of the right sizes.
+// Assumes the bounds that each `requires` states.
+ghost use mathlib.Core.Path.{_≡_};
+ghost use Rattle.height.specs.Words.{Negated};
+ghost use Rattle.protocol.specs.Network.{fresh, freshHeight};
+ghost use Rattle.tables.specs.Load.{tablesOf};
+ghost use Rattle.tables.specs.Tables.{given, atExit, Sized};
+use height::Height;
+use height::LeaderPair;
+use height::ReferenceLevel;
+use height::Time;
+
+// (0, 0, 0, 0, 0, k, k)
+fn fresh_height(k: u32) -> Height
+    ensures { λ r. ⌜ (r ≡ freshHeight k) × Negated (r .pair .nlts .0) ⌝ }
+{
+    height::self_elected(k, Time(0))
+}
+
+// Every word zero but each node's own height.
+pub fn fill(n: u32, nodes: &mut [u32], channels: &mut [u32])
+    requires { ⌜ Sized n (given nodes channels) ⌝ }
+    ensures { λ _. ⌜ atExit nodes channels ≡ tablesOf n fresh ⌝ }
+{
+    tables::cells::fill_zero(nodes);
+    tables::cells::fill_zero(channels);
+    let w = 3 + 7 * (n as usize);
+    let mut u = 1;
+    while u <= n {
+        let h = fresh_height(u);
+        let a = tables::rows::node_start(n, u);
+        let e = a + w;
+        tables::rows::write_row(n, &mut nodes[a..e], Time(0), 0, 0, u, h, u, h);
+        u += 1;
+    }
+}

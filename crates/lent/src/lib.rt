@@ -1,0 +1,48 @@
+// The lent tables' one door: `check` answers refusals 1 and 2 for every routine that reads tables, `is_sized` 1 for those that fill them.
+// No function requires anything: what cannot be done is refused, and nothing lent changes.
+ghost use mathlib.Core.Path.{_≡_};
+ghost use Rattle.tables.specs.Tables.{atEntry, atExit, sized};
+ghost use Rattle.lent.specs.Check.{saidCheck, checkOn};
+ghost use Rattle.lent.specs.Fresh.{filled, freshOn};
+
+mod filling;
+mod search;
+
+// What a check answers: nothing at fault (0), sizes (1), or the first pair at fault (2).
+pub enum Checked {
+    Sound,
+    Sizes,
+    Fault(u32, u32),
+}
+
+// n from 1 to 16, and the tables of the lengths for n.
+pub fn is_sized(n: u32, nodes: &[u32], channels: &[u32]) -> bool
+    ensures { λ r. ⌜ r ≡ sized n (atEntry nodes channels) ⌝ }
+{
+    if n <= 16 {
+        let k = n as usize;
+        return (1 <= n) & (nodes.len() == k * (3 + 7 * k)) & (channels.len() == k * k * 65);
+    }
+    false
+}
+
+// Refusals 1 and 2, for any tables whatever.
+pub fn check(n: u32, nodes: &[u32], channels: &[u32]) -> Checked
+    ensures { λ r. ⌜ saidCheck r ≡ checkOn n (atEntry nodes channels) ⌝ }
+{
+    if is_sized(n, nodes, channels) {
+        return search::first_fault(n, nodes, channels);
+    }
+    Checked::Sizes
+}
+
+// The fresh network of n nodes.
+pub fn fresh(n: u32, nodes: &mut [u32], channels: &mut [u32]) -> Checked
+    ensures { λ r. ⌜ filled (saidCheck r) (atExit nodes channels) ≡ freshOn n (atEntry nodes channels) ⌝ }
+{
+    if is_sized(n, nodes, channels) {
+        filling::fill(n, nodes, channels);
+        return Checked::Sound;
+    }
+    Checked::Sizes
+}
