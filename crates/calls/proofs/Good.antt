@@ -7,12 +7,13 @@ use mathlib.Core.Path.{_≡_, refl, sym, ap, _∙_}
 use borrow.Author.Tests.{eqb-true}
 use lib.Dec.{eqb}
 use Rattle.nodeset.specs.NodeSet.{setOf}
+use Rattle.basics.specs.Functions.{afterAll}
 use Rattle.protocol.specs.Answer.{Said}
-use Rattle.calls.specs.History.{Told, State, started, entered, advance, advanced, grown}
+use Rattle.calls.specs.History.{Told, State, started, entered, advance, grown}
 use Rattle.protocol.specs.Network.{Network}
 use Rattle.protocol.specs.Refusal.{returned, accepts, answer, next}
 use Rattle.protocol.specs.Step.{Event, local, step}
-use Rattle.protocol.proofs.Accepted.{Accepted, accepted}
+use Rattle.protocol.proofs.Accepted.{accepts-accepted}
 use Rattle.calls.proofs.HistoryLaws.{event-told}
 use Rattle.protocol.proofs.Invariant.{Inv}
 use Rattle.protocol.proofs.Said.{rule-said}
@@ -29,18 +30,14 @@ pub record Good (n : ℕ) (s : State) : Type 0 where
 pub good-started : (n : ℕ) → Good n started
 good-started n = record { inv = fresh-inv n; fits = fresh-fits n; told = record { ups = λ u v. refl; counts = λ u v. refl } }
 
-pub accepts-accepted : (n : ℕ) (p : Network) (e : Event) → accepts n p e ≡ true → Accepted n p e
-unfolding accepts
-accepts-accepted n p e i = accepted n p e (eqb-true (returned n p e) 0 i)
-
 -- the number in an answer is the returned one
-pub answer-number : (n : ℕ) (p : Network) (e : Event) → answer n p e .number ≡ returned n p e
+pub answer-number : (n : ℕ) (p : Network) (e : Event) → answer n p e .why .number ≡ returned n p e
 unfolding answer accepts
 answer-number n p e = go (choice (eqb (returned n p e) 0))
   where
-    go : Choice (eqb (returned n p e) 0) → answer n p e .number ≡ returned n p e
+    go : Choice (eqb (returned n p e) 0) → answer n p e .why .number ≡ returned n p e
     go (yes! i) =
-        rw i (ap (λ (s : Said). s .number) (rule-said (local n p e .rule) (setOf n (local n p e .sent))) ∙ sym (eqb-true (returned n p e) 0 i))
+        rw i (ap (λ (s : Said). s .why .number) (rule-said (local n p e .rule) (setOf n (local n p e .sent))) ∙ sym (eqb-true (returned n p e) 0 i))
     go (no! i) = rw i
 
 pub good-advance : (n : ℕ) (s : State) (e : Event) → Good n s → Good n (advance n s e)
@@ -50,7 +47,7 @@ good-advance n s e g = go (choice (accepts n (s .network) e))
     p : Network
     p = s .network
 
-    said : eqb (answer n p e .number) 0 ≡ eqb (returned n p e) 0
+    said : eqb (answer n p e .why .number) 0 ≡ eqb (returned n p e) 0
     said = ap (λ k. eqb k 0) (answer-number n p e)
 
     go : Choice (accepts n p e)
@@ -64,8 +61,7 @@ good-advance n s e g = go (choice (accepts n (s .network) e))
         })
     go (no! i) = rw (i, said ∙ i) g
 
-pub good-advanced : (n : ℕ) (s : State) (es : List Event) → Good n s → Good n (advanced n s es)
-unfolding advanced
+pub good-advanced : (n : ℕ) (s : State) (es : List Event) → Good n s → Good n (afterAll (advance n) s es)
 good-advanced n s [] g = g
 good-advanced n s (e ∷ es) g = good-advanced n (advance n s e) es (good-advance n s e g)
 

@@ -8,33 +8,34 @@ use mathlib.Core.Path.{_≡_, refl, sym, ap, _∙_}
 use lib.Dec.{eqb}
 use borrow.Author.Tests.{eqb-true, eqb-false}
 use Rattle.basics.proofs.Tests.{clash, Choice, yes!, no!, choice}
-use Rattle.calls.specs.Run.{Call, event, save, restore, Returned, Calls, Saved, RunState, Earlier, savedAt, sameBytes, lastSave, act, perform}
+use Rattle.calls.specs.Run.{Call, event, save, restore, Calls, Saved, RunState, Earlier, savedAt, sameBytes, lastSave, act, perform}
+use Rattle.refusal.specs.Outcome.{Outcome}
 use Rattle.calls.proofs.SavesLaws.{same-bytes, bytes-same}
 
 module _ {A : Type 0} (calls : Calls A) (b : List ℕ) where
   -- the call is no accepted save that wrote b
   abbrev pub NotWriting : RunState A → Call → Type 0
-  NotWriting w c = (m : ℕ) (out : List ℕ) → c ≡ save m out → calls .written m out (w .now) .number ≡ 0 → calls .written m out (w .now) .left ≡ b → ⊥
+  NotWriting w c = (m : ℕ) (out : List ℕ) → c ≡ save m out → calls .written m out (w .now) .said ≡ 0 → calls .written m out (w .now) .after ≡ b → ⊥
 
   -- no accepted save of the list wrote b
   abbrev pub NoneWrote : RunState A → List Call → Type 0
   NoneWrote w cs = (mid more : List Call) (m : ℕ) (out : List ℕ) → cs ≡ mid ++ (save m out ∷ more)
-      → calls .written m out (perform calls w mid .now) .number ≡ 0 → calls .written m out (perform calls w mid .now) .left ≡ b → ⊥
+      → calls .written m out (perform calls w mid .now) .said ≡ 0 → calls .written m out (perform calls w mid .now) .after ≡ b → ⊥
 
   -- ---- which save is the last one that wrote b changes only by a save that wrote it again
 
   pub last-stays : (w : RunState A) (c : Call) → NotWriting w c → lastSave b (act calls w c .saves) ≡ lastSave b (w .saves)
   last-stays w (event m e) d = refl
   last-stays w (restore x) d = refl
-  last-stays w (save m out) d = go (choice (eqb (o .number) 0)) (choice (sameBytes b (o .left)))
+  last-stays w (save m out) d = go (choice (eqb (o .said) 0)) (choice (sameBytes b (o .after)))
     where
-      o : Returned (List ℕ)
+      o : Outcome ℕ (List ℕ)
       o = calls .written m out (w .now)
 
-      go : Choice (eqb (o .number) 0) → Choice (sameBytes b (o .left)) → lastSave b (act calls w (save m out) .saves) ≡ lastSave b (w .saves)
+      go : Choice (eqb (o .said) 0) → Choice (sameBytes b (o .after)) → lastSave b (act calls w (save m out) .saves) ≡ lastSave b (w .saves)
       go (no! i) j = rw i
       go (yes! i) (no! j) = rw (i, j)
-      go (yes! i) (yes! j) = absurd (d m out refl (eqb-true (o .number) 0 i) (sym (same-bytes b (o .left) j)))
+      go (yes! i) (yes! j) = absurd (d m out refl (eqb-true (o .said) 0 i) (sym (same-bytes b (o .after) j)))
 
   pub stays-last : (w : RunState A) (cs : List Call) → NoneWrote w cs → lastSave b (perform calls w cs .saves) ≡ lastSave b (w .saves)
   stays-last w [] d = refl
@@ -51,8 +52,8 @@ module _ {A : Type 0} (calls : Calls A) (b : List ℕ) where
     pub m : ℕ
     pub out : List ℕ
     pub list : cs ≡ before ++ (save m out ∷ rest)
-    pub accepted : calls .written m out (perform calls w before .now) .number ≡ 0
-    pub bytes : calls .written m out (perform calls w before .now) .left ≡ b
+    pub accepted : calls .written m out (perform calls w before .now) .said ≡ 0
+    pub bytes : calls .written m out (perform calls w before .now) .after ≡ b
     pub is : s ≡ record { bytes = b; at = perform calls w before .now; history = perform calls w before .history }
     pub no-later : NoneWrote (act calls (perform calls w before) (save m out)) rest
 
@@ -78,35 +79,35 @@ module _ {A : Type 0} (calls : Calls A) (b : List ℕ) where
       inl (l, none-cons w (event m e) cs (λ k to q. let z : _≡_ {A = ℕ} 0 1 = cc in absurd (omega arith)) none)
   in-front w s (restore x) cs l none =
       inl (l, none-cons w (restore x) cs (λ k to q. let z : _≡_ {A = ℕ} 0 1 = cc in absurd (omega arith)) none)
-  in-front w s (save m out) cs l none = go (choice (eqb (o .number) 0)) (choice (sameBytes b (o .left)))
+  in-front w s (save m out) cs l none = go (choice (eqb (o .said) 0)) (choice (sameBytes b (o .after)))
     where
-      o : Returned (List ℕ)
+      o : Outcome ℕ (List ℕ)
       o = calls .written m out (w .now)
 
       new : Saved A
-      new = record { bytes = o .left; at = w .now; history = w .history }
+      new = record { bytes = o .after; at = w .now; history = w .history }
 
-      not-writing : (o .number ≡ 0 → o .left ≡ b → ⊥) → NotWriting w (save m out)
+      not-writing : (o .said ≡ 0 → o .after ≡ b → ⊥) → NotWriting w (save m out)
       not-writing d k to q z y =
           let e : m ≡ k = cc in
           let f : out ≡ to = cc in
           d (rw (e, f) z) (rw (e, f) y)
 
-      go : Choice (eqb (o .number) 0) → Choice (sameBytes b (o .left)) → Known w s (save m out ∷ cs)
-      go (no! i) j = inl (rw i at l, none-cons w (save m out) cs (not-writing (λ z y. eqb-false (o .number) 0 i z)) none)
+      go : Choice (eqb (o .said) 0) → Choice (sameBytes b (o .after)) → Known w s (save m out ∷ cs)
+      go (no! i) j = inl (rw i at l, none-cons w (save m out) cs (not-writing (λ z y. eqb-false (o .said) 0 i z)) none)
       go (yes! i) (no! j) =
-          inl (rw (i, j) at l, none-cons w (save m out) cs (not-writing (λ z y. clash (bytes-same b (o .left) (sym y)) j)) none)
+          inl (rw (i, j) at l, none-cons w (save m out) cs (not-writing (λ z y. clash (bytes-same b (o .after) (sym y)) j)) none)
       go (yes! i) (yes! j) =
           let f : _≡_ {A = Earlier A} (savedAt new) (savedAt s) = rw (i, j) at l in
           let g : new ≡ s = cc in
-          let h : b ≡ o .left = same-bytes b (o .left) j in
+          let h : b ≡ o .after = same-bytes b (o .after) j in
           inr (record {
             before = [];
             rest = cs;
             m = m;
             out = out;
             list = refl;
-            accepted = eqb-true (o .number) 0 i;
+            accepted = eqb-true (o .said) 0 i;
             bytes = sym h;
             is = sym g ∙ ap (λ (x : List ℕ). record { bytes = x; at = w .now; history = w .history }) (sym h);
             no-later = none;

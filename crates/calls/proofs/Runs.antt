@@ -10,7 +10,9 @@ use Rattle.protocol.specs.Network.{Node, Network, fresh, own, restrict}
 use Rattle.calls.specs.Component.{Quiescent, OneLeader}
 use Rattle.calls.specs.History.{upIn, waiting, Told, State, advance}
 use Rattle.protocol.specs.Holds.{sound}
-use Rattle.calls.specs.Run.{Call, Stepped, Returned, Saved, RunState, startOfRun, savedAt, lastSave, steppedTo, keeping}
+use Rattle.calls.specs.Run.{Call, Saved, RunState, startOfRun, savedAt, lastSave, steppedTo, keeping}
+use Rattle.protocol.specs.Answer.{Said}
+use Rattle.refusal.specs.Outcome.{Outcome}
 use Rattle.calls.specs.Run.{act, Fair, fairEvent, fairSave, fairSaved, fairRefused, meant}
 use Rattle.basics.proofs.AllOf.{AllOf, none, more}
 use Rattle.calls.proofs.Good.{Good, good-started, good-advance}
@@ -37,12 +39,12 @@ stateOf w = record { network = w .now; history = w .history }
 abbrev pub stateAt : Saved Network → State
 stateAt s = record { network = s .at; history = s .history }
 
-module _ (write : ℕ → List ℕ → Network → Returned (List ℕ)) (read : List ℕ → Network → Returned Network) (n : ℕ)
+module _ (write : ℕ → List ℕ → Network → Outcome ℕ (List ℕ)) (read : List ℕ → Network → Outcome ℕ Network) (n : ℕ)
     (ImageOf : Network → List ℕ → Type 0)
-    (writes : (m : ℕ) (out : List ℕ) (p : Network) → write m out p .number ≡ 0 → ImageOf p (write m out p .left))
+    (writes : (m : ℕ) (out : List ℕ) (p : Network) → write m out p .said ≡ 0 → ImageOf p (write m out p .after))
     (reads : (p : Network) (b : List ℕ) → sound n p ≡ true → restrict n p ≡ p → ImageOf p b
-    → (q : Network) → read b q ≡ record { number = 0; left = p })
-    (kept : (b : List ℕ) (q : Network) → sound n q ≡ true → restrict n q ≡ q → (read b q .number ≡ 0 → ⊥) → read b q .left ≡ q) where
+    → (q : Network) → read b q ≡ record { said = 0; after = p })
+    (kept : (b : List ℕ) (q : Network) → sound n q ≡ true → restrict n q ≡ q → (read b q .said ≡ 0 → ⊥) → read b q .after ≡ q) where
   -- a save holds an image of a good state
   pub record Imaged (s : Saved Network) : Type 0 where
     pub good : Good n (stateAt s)
@@ -54,7 +56,7 @@ module _ (write : ℕ → List ℕ → Network → Returned (List ℕ)) (read : 
 
   -- a restore of an earlier save's bytes gives the network at that save
   pub read-saved : (w : RunState Network) (b : List ℕ) (s : Saved Network) → Sane w → lastSave b (w .saves) ≡ savedAt s
-      → (q : Network) → read b q ≡ record { number = 0; left = s .at }
+      → (q : Network) → read b q ≡ record { said = 0; after = s .at }
   read-saved w b s sane e q =
       let f = found Imaged b (w .saves) (sane .saves) s e in
       let fits = f .1 .good .fits in
@@ -62,7 +64,7 @@ module _ (write : ℕ → List ℕ → Network → Returned (List ℕ)) (read : 
       ∙ reads (s .at) (s .bytes) (sound-holds n (s .at) fits) (restrict-is n (s .at) fits) (f .1 .image) q
 
   -- a refused one leaves the network
-  pub read-refused : (w : RunState Network) (b : List ℕ) → Sane w → (read b (w .now) .number ≡ 0 → ⊥) → read b (w .now) .left ≡ w .now
+  pub read-refused : (w : RunState Network) (b : List ℕ) → Sane w → (read b (w .now) .said ≡ 0 → ⊥) → read b (w .now) .after ≡ w .now
   read-refused w b sane d =
       let fits = sane .good .fits in
       kept b (w .now) (sound-holds n (w .now) fits) (restrict-is n (w .now) fits) d
@@ -70,15 +72,15 @@ module _ (write : ℕ → List ℕ → Network → Returned (List ℕ)) (read : 
   pub act-sane : (w : RunState Network) (c : Call) → Sane w → Fair (meant write read n) w c → Sane (act (meant write read n) w c)
   unfolding advance
   act-sane w c s (fairEvent m e) =
-      byCases (λ (o : Stepped Network). Sane (steppedTo w e o)) (eqb m n) _ _
+      byCases (λ (o : Outcome Said Network). Sane (steppedTo w e o)) (eqb m n) _ _
       (λ i. record { good = good-advance n (stateOf w) e (s .good); saves = s .saves }) (λ i. s)
-  act-sane w c s (fairSave m out) = record { good = s .good; saves = go (choice (eqb (write m out (w .now) .number) 0)) }
+  act-sane w c s (fairSave m out) = record { good = s .good; saves = go (choice (eqb (write m out (w .now) .said) 0)) }
     where
-      go : Choice (eqb (write m out (w .now) .number) 0) → AllOf Imaged (keeping w (write m out (w .now)))
+      go : Choice (eqb (write m out (w .now) .said) 0) → AllOf Imaged (keeping w (write m out (w .now)))
       go (no! i) = rw i (s .saves)
       go (yes! i) =
-          rw i (more (record { good = s .good; image = writes m out (w .now) (eqb-true (write m out (w .now) .number) 0 i) }) (s .saves))
-  act-sane w c s (fairRefused b d) = rw (read-refused w b s d, ne-eqb (read b (w .now) .number) 0 d) s
+          rw i (more (record { good = s .good; image = writes m out (w .now) (eqb-true (write m out (w .now) .said) 0 i) }) (s .saves))
+  act-sane w c s (fairRefused b d) = rw (read-refused w b s d, ne-eqb (read b (w .now) .said) 0 d) s
   act-sane w c s (fairSaved b t e) =
       rw (read-saved w b t s e (w .now), e) (record { good = found Imaged b (w .saves) (s .saves) t e .1 .good; saves = s .saves })
 

@@ -9,7 +9,8 @@ use lib.Dec.{eqb}
 use borrow.Author.Tests.{eqb-true, eq-eqb, ne-eqb}
 use Rattle.basics.proofs.Tests.{clash, not-true-is-false, Choice, yes!, no!, choice, and-left, and-right, and-both}
 use Rattle.calls.specs.History.{entry}
-use Rattle.calls.specs.Run.{Call, event, save, restore, Returned, Calls, Saved, RunState, startOfRun, Earlier, savedAt, sameBytes, lastSave, historyAt}
+use Rattle.calls.specs.Run.{Call, event, save, restore, Calls, Saved, RunState, startOfRun, Earlier, savedAt, sameBytes, lastSave, historyAt}
+use Rattle.refusal.specs.Outcome.{Outcome}
 use Rattle.calls.specs.Run.{act}
 use Rattle.protocol.specs.Step.{Event}
 use Rattle.basics.proofs.AllOf.{AllOf, more}
@@ -60,51 +61,51 @@ found {A = A} P b (x ∷ ss) (more h k) s e = go (found P b ss k s) (choice (sam
 
 module _ {A : Type 0} (calls : Calls A) (w : RunState A) where
   -- right after an accepted save it is the last one that wrote its bytes
-  pub save-last : (m : ℕ) (out : List ℕ) → calls .written m out (w .now) .number ≡ 0
-      → lastSave (calls .written m out (w .now) .left) (act calls w (save m out) .saves)
-      ≡ savedAt (record { bytes = calls .written m out (w .now) .left; at = w .now; history = w .history })
+  pub save-last : (m : ℕ) (out : List ℕ) → calls .written m out (w .now) .said ≡ 0
+      → lastSave (calls .written m out (w .now) .after) (act calls w (save m out) .saves)
+      ≡ savedAt (record { bytes = calls .written m out (w .now) .after; at = w .now; history = w .history })
   save-last m out zero! =
       let o = calls .written m out (w .now) in
-      rw (eq-eqb (o .number) 0 zero!, bytes-same (o .left) (o .left) refl)
+      rw (eq-eqb (o .said) 0 zero!, bytes-same (o .after) (o .after) refl)
 
   -- a refused one is not kept
-  pub save-refused : (m : ℕ) (out : List ℕ) → (calls .written m out (w .now) .number ≡ 0 → ⊥) → act calls w (save m out) .saves ≡ w .saves
-  save-refused m out d = rw (ne-eqb (calls .written m out (w .now) .number) 0 d)
+  pub save-refused : (m : ℕ) (out : List ℕ) → (calls .written m out (w .now) .said ≡ 0 → ⊥) → act calls w (save m out) .saves ≡ w .saves
+  save-refused m out d = rw (ne-eqb (calls .written m out (w .now) .said) 0 d)
 
   -- bytes once saved are not forgotten
   pub not-forgotten : (c : Call) (b : List ℕ) (s : Saved A) → lastSave b (w .saves) ≡ savedAt s
       → (r : Saved A) × (lastSave b (act calls w c .saves) ≡ savedAt r)
   not-forgotten (event m e) b s l = (s, l)
   not-forgotten (restore x) b s l = (s, l)
-  not-forgotten (save m out) b s l = go (choice (eqb (o .number) 0)) (choice (sameBytes b (o .left)))
+  not-forgotten (save m out) b s l = go (choice (eqb (o .said) 0)) (choice (sameBytes b (o .after)))
     where
-      o : Returned (List ℕ)
+      o : Outcome ℕ (List ℕ)
       o = calls .written m out (w .now)
 
       new : Saved A
-      new = record { bytes = o .left; at = w .now; history = w .history }
+      new = record { bytes = o .after; at = w .now; history = w .history }
 
-      go : Choice (eqb (o .number) 0) → Choice (sameBytes b (o .left)) → (r : Saved A) × (lastSave b (act calls w (save m out) .saves) ≡ savedAt r)
+      go : Choice (eqb (o .said) 0) → Choice (sameBytes b (o .after)) → (r : Saved A) × (lastSave b (act calls w (save m out) .saves) ≡ savedAt r)
       go (no! i) j = (s, rw i l)
       go (yes! i) (no! j) = (s, rw (i, j) l)
       go (yes! i) (yes! j) = (new, rw (i, j) refl)
 
   -- an accepted restore puts back the history of the last save that wrote its bytes; a refused one leaves it
-  pub restore-history : (b : List ℕ) (s : Saved A) → lastSave b (w .saves) ≡ savedAt s → calls .resumed b (w .now) .number ≡ 0
+  pub restore-history : (b : List ℕ) (s : Saved A) → lastSave b (w .saves) ≡ savedAt s → calls .resumed b (w .now) .said ≡ 0
       → act calls w (restore b) .history ≡ s .history
   restore-history b s l zero! =
-      ap (λ t. cond t (historyAt (lastSave b (w .saves))) (w .history)) (eq-eqb (calls .resumed b (w .now) .number) 0 zero!) ∙ ap historyAt l
+      ap (λ t. cond t (historyAt (lastSave b (w .saves))) (w .history)) (eq-eqb (calls .resumed b (w .now) .said) 0 zero!) ∙ ap historyAt l
 
-  pub refused-history : (b : List ℕ) → (calls .resumed b (w .now) .number ≡ 0 → ⊥) → act calls w (restore b) .history ≡ w .history
-  refused-history b d = rw (ne-eqb (calls .resumed b (w .now) .number) 0 d)
+  pub refused-history : (b : List ℕ) → (calls .resumed b (w .now) .said ≡ 0 → ⊥) → act calls w (restore b) .history ≡ w .history
+  refused-history b d = rw (ne-eqb (calls .resumed b (w .now) .said) 0 d)
 
   -- an accepted event enters the history with what was said; a refused one does not, nor does a save
-  pub event-enters : (m : ℕ) (e : Event) → calls .stepped m e (w .now) .said .number ≡ 0
+  pub event-enters : (m : ℕ) (e : Event) → calls .stepped m e (w .now) .said .why .number ≡ 0
       → act calls w (event m e) .history ≡ entry e (calls .stepped m e (w .now) .said) ∷ w .history
-  event-enters m e zero! = rw (eq-eqb (calls .stepped m e (w .now) .said .number) 0 zero!)
+  event-enters m e zero! = rw (eq-eqb (calls .stepped m e (w .now) .said .why .number) 0 zero!)
 
-  pub event-refused : (m : ℕ) (e : Event) → (calls .stepped m e (w .now) .said .number ≡ 0 → ⊥) → act calls w (event m e) .history ≡ w .history
-  event-refused m e d = rw (ne-eqb (calls .stepped m e (w .now) .said .number) 0 d)
+  pub event-refused : (m : ℕ) (e : Event) → (calls .stepped m e (w .now) .said .why .number ≡ 0 → ⊥) → act calls w (event m e) .history ≡ w .history
+  event-refused m e d = rw (ne-eqb (calls .stepped m e (w .now) .said .why .number) 0 d)
 
   pub save-history : (m : ℕ) (out : List ℕ) → act calls w (save m out) .history ≡ w .history
   save-history m out = refl

@@ -62,6 +62,6 @@ module _ (n : ℕ) (p : Network) (e : Event) (fits : Fits n p) (ok : Accepted n 
       w
 
 -- what an accepted event says it sent to
-pub answer-sent : (n : ℕ) (p : Network) (e : Event) → accepts n p e ≡ true → answer n p e .sentTo ≡ setOf n (local n p e .sent)
+pub answer-sent : (n : ℕ) (p : Network) (e : Event) → accepts n p e ≡ true → answer n p e .value .sentTo ≡ setOf n (local n p e .sent)
 unfolding answer
-answer-sent n p e ok = rw ok (ap (λ (s : Said). s .sentTo) (rule-said (local n p e .rule) (setOf n (local n p e .sent))))
+answer-sent n p e ok = rw ok (ap (λ (s : Said). s .value .sentTo) (rule-said (local n p e .rule) (setOf n (local n p e .sent))))

@@ -5,10 +5,11 @@ use mathlib.Core.Bool.{true, false}
 use mathlib.Core.List.{List, [], _∷_}
 use mathlib.Core.Path.{_≡_, refl}
 use Rattle.protocol.specs.Network.{Node, Network, own, restrict}
+use Rattle.basics.specs.Functions.{afterAll}
 use Rattle.calls.specs.Component.{Quiescent, OneLeader}
-use Rattle.calls.specs.History.{State, upIn, waiting, Told, advance, advanced, grown}
+use Rattle.calls.specs.History.{State, upIn, waiting, Told, advance, grown}
 use Rattle.protocol.specs.Holds.{sound}
-use Rattle.protocol.specs.Refusal.{nextAll}
+use Rattle.protocol.specs.Refusal.{next}
 use Rattle.protocol.specs.Sink.{sink}
 use Rattle.protocol.specs.Step.{Event}
 use Rattle.protocol.specs.Times.{timely}
@@ -51,7 +52,7 @@ pub grown-led : (n : ℕ) (es : List Event) → Led n (grown n es)
 grown-led n es = quiet-leader n (grown n es) (good-grown n es)
 
 -- the network of a grown state is the one that the events leave, one after the other
-pub advanced-network : (n : ℕ) (s : State) (es : List Event) → advanced n s es .network ≡ nextAll n (s .network) es
-unfolding advanced advance nextAll
+pub advanced-network : (n : ℕ) (s : State) (es : List Event) → afterAll (advance n) s es .network ≡ afterAll (next n) (s .network) es
+unfolding advance
 advanced-network n s [] = refl
 advanced-network n s (e ∷ es) = advanced-network n (advance n s e) es

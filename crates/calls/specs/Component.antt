@@ -1,24 +1,12 @@
 -- Quiet networks, groups, chains and collectors: document 01, "What a station holds" and "Lists of calls".
 -- Over which channels are up (`ups`), how many messages wait, and each node's own height; up and waiting come from the history.
-use Prim.Native.Nat.{ℕ, _≤_}
-use mathlib.Core.Bool.{Bool, true, _&&_, Bool·beq}
+use Prim.Native.Nat.{ℕ}
+use mathlib.Core.Bool.{Bool, true}
 use mathlib.Core.Path.{_≡_}
 use Rattle.height.specs.Order.{before}
 use Rattle.height.specs.Height.{heightKey}
 use Rattle.height.specs.declared.Height.{Height}
-use Rattle.basics.specs.Functions.{every}
-use Rattle.protocol.specs.Holds.{isEmpty}
-use Rattle.protocol.specs.Network.{Network, upTo}
-
-pub record Node (n u : ℕ) : Type 0 where
-  pub low : 1 ≤ u
-  pub high : u ≤ n
-
--- two different nodes
-pub record Two (n u v : ℕ) : Type 0 where
-  pub one : Node n u
-  pub other : Node n v
-  pub differ : u ≡ v → ⊥
+use Rattle.protocol.specs.Network.{Node, Two}
 
 -- quiet: no message waits, and each channel is up exactly when the one back is
 pub record Quiescent (n : ℕ) (ups : ℕ → ℕ → Bool) (waiting : ℕ → ℕ → ℕ) : Type 0 where
@@ -53,14 +41,3 @@ pub record OneLeader (n : ℕ) (ups : ℕ → ℕ → Bool) (own : ℕ → Heigh
   pub member : Joined n ups u leader
   pub only : (w : ℕ) → Joined n ups u w → Leader own w → w ≡ leader
   pub chain : Descending n ups own u leader
-
--- ---- quiet, read off the network (the same as by the history: proofs/Leaders.antt)
-
-unfoldable pub pairQuiet : Network → ℕ → ℕ → Bool
-pairQuiet p u v = isEmpty (p .channel u v) && Bool·beq (upTo p u v) (upTo p v u)
-
-unfoldable pub nodeQuiet : ℕ → Network → ℕ → Bool
-nodeQuiet n p u = every n (pairQuiet p u)
-
-unfoldable pub quiet : ℕ → Network → Bool
-quiet n p = every n (nodeQuiet n p)

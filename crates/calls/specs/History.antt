@@ -7,10 +7,11 @@ use mathlib.Core.Path.{_≡_}
 use lib.Dec.{eqb}
 use lib.ListN.{length}
 use Rattle.nodeset.specs.NodeSet.{member, digit}
+use Rattle.basics.specs.Functions.{afterAll}
 use Rattle.protocol.specs.Answer.{Said}
 use Rattle.protocol.specs.Network.{Network, upTo, fresh}
 use Rattle.protocol.specs.Refusal.{answer, next}
-use Rattle.protocol.specs.Step.{Event, up, down, receive, home}
+use Rattle.protocol.specs.Step.{Event, up, down, receive, home, isDown, isReceipt}
 
 pub record Entry : Type 0 where
   pub event : Event
@@ -24,7 +25,7 @@ entry e s = record { event = e; said = s }
 
 -- an event that was said to be accepted enters the history
 abbrev pub entered : Event → Said → History → History
-entered e s h = cond (eqb (s .number) 0) (entry e s ∷ h) h
+entered e s h = cond (eqb (s .why .number) 0) (entry e s ∷ h) h
 
 -- ---- channel u to v is up exactly when the last up or down of u, v in the history is an up
 
@@ -39,20 +40,9 @@ upIn (e ∷ h) u v = turned (e .event) u v (upIn h u v)
 
 -- ---- messages waiting: sendings less receipts, both since the last down of u, v or else the start
 
-abbrev pub isDown : Event → ℕ → ℕ → Bool
-isDown (up a b) u v = false
-isDown (down a b) u v = eqb u a && eqb v b
-isDown (receive b a) u v = false
-
 -- an event at u whose set sent to holds v
 abbrev pub isSending : Entry → ℕ → ℕ → Bool
-isSending e u v = eqb u (home (e .event)) && member (e .said .sentTo) v
-
--- a receipt at v from u
-abbrev pub isReceipt : Event → ℕ → ℕ → Bool
-isReceipt (up a b) u v = false
-isReceipt (down a b) u v = false
-isReceipt (receive b a) u v = eqb u b && eqb v a
+isSending e u v = eqb u (home (e .event)) && member (e .said .value .sentTo) v
 
 abbrev pub sentSince : History → ℕ → ℕ → ℕ
 sentSince [] u v = 0
@@ -85,11 +75,6 @@ started = record { network = fresh; history = [] }
 unfoldable pub advance : ℕ → State → Event → State
 advance n s e = record { network = next n (s .network) e; history = entered e (answer n (s .network) e) (s .history) }
 
--- after a list of events, refused ones among them
-unfoldable pub advanced : ℕ → State → List Event → State
-advanced n s [] = s
-advanced n s (e ∷ es) = advanced n (advance n s e) es
-
--- grown from the fresh network
+-- grown from the fresh network by a list of events, refused ones among them
 abbrev pub grown : ℕ → List Event → State
-grown n es = advanced n started es
+grown n es = afterAll (advance n) started es

@@ -5,6 +5,9 @@ use mathlib.Core.Bool.{Bool, true, false, cond, _&&_}
 use mathlib.Core.List.{List, [], _∷_}
 use mathlib.Core.Path.{_≡_}
 use lib.Dec.{eqb}
+use Rattle.basics.specs.Functions.{afterAll}
+use Rattle.refusal.specs.Outcome.{Outcome, outcome}
+use Rattle.refusal.specs.Refusal.{why}
 use Rattle.protocol.specs.Answer.{Said, saidRefused}
 use Rattle.calls.specs.History.{History, entered}
 use Rattle.protocol.specs.Network.{Network}
@@ -18,20 +21,11 @@ pub data Call : Type 0 where
 
 -- ---- what calls are made on
 
--- what an event says, and what it leaves
-pub record Stepped (A : Type 0) : Type 0 where
-  pub said : Said
-  pub after : A
-
--- the number that a save or a restore returns, and what it leaves: the bytes that it wrote, or what it was made on
-pub record Returned (A : Type 0) : Type 0 where
-  pub number : ℕ
-  pub left : A
-
+-- what an event says and leaves; the number that a save or a restore returns, and the bytes that the one wrote, what the other leaves
 pub record Calls (A : Type 0) : Type 0 where
-  pub stepped : ℕ → Event → A → Stepped A
-  pub written : ℕ → List ℕ → A → Returned (List ℕ)
-  pub resumed : List ℕ → A → Returned A
+  pub stepped : ℕ → Event → A → Outcome Said A
+  pub written : ℕ → List ℕ → A → Outcome ℕ (List ℕ)
+  pub resumed : List ℕ → A → Outcome ℕ A
 
 -- ---- the run
 
@@ -70,20 +64,20 @@ historyAt never = []
 historyAt (savedAt s) = s .history
 
 -- an accepted event enters the history
-abbrev pub steppedTo : {A : Type 0} → RunState A → Event → Stepped A → RunState A
+abbrev pub steppedTo : {A : Type 0} → RunState A → Event → Outcome Said A → RunState A
 steppedTo w e o = record { now = o .after; history = entered e (o .said) (w .history); saves = w .saves }
 
 -- an accepted save is kept
-abbrev pub keeping : {A : Type 0} → RunState A → Returned (List ℕ) → List (Saved A)
-keeping w o = cond (eqb (o .number) 0) (record { bytes = o .left; at = w .now; history = w .history } ∷ w .saves) (w .saves)
+abbrev pub keeping : {A : Type 0} → RunState A → Outcome ℕ (List ℕ) → List (Saved A)
+keeping w o = cond (eqb (o .said) 0) (record { bytes = o .after; at = w .now; history = w .history } ∷ w .saves) (w .saves)
 
-abbrev pub savedTo : {A : Type 0} → RunState A → Returned (List ℕ) → RunState A
+abbrev pub savedTo : {A : Type 0} → RunState A → Outcome ℕ (List ℕ) → RunState A
 savedTo w o = record { now = w .now; history = w .history; saves = keeping w o }
 
 -- an accepted restore puts back the history as it stood at the last save that wrote these bytes
-abbrev pub restored : {A : Type 0} → RunState A → List ℕ → Returned A → RunState A
+abbrev pub restored : {A : Type 0} → RunState A → List ℕ → Outcome ℕ A → RunState A
 restored w b o =
-    record { now = o .left; history = cond (eqb (o .number) 0) (historyAt (lastSave b (w .saves))) (w .history); saves = w .saves }
+    record { now = o .after; history = cond (eqb (o .said) 0) (historyAt (lastSave b (w .saves))) (w .history); saves = w .saves }
 
 module _ {A : Type 0} (calls : Calls A) where
   abbrev pub act : RunState A → Call → RunState A
@@ -92,15 +86,14 @@ module _ {A : Type 0} (calls : Calls A) where
   act w (restore b) = restored w b (calls .resumed b (w .now))
 
   abbrev pub perform : RunState A → List Call → RunState A
-  perform w [] = w
-  perform w (c ∷ cs) = perform (act w c) cs
+  perform w cs = afterAll act w cs
 
   -- a restore is handed the bytes that an earlier accepted save of the list wrote, or any bytes that it refuses
   pub data Fair (w : RunState A) : Call → Type 0 where
     fairEvent : (m : ℕ) (e : Event) → Fair w (event m e)
     fairSave : (m : ℕ) (out : List ℕ) → Fair w (save m out)
     fairSaved : (b : List ℕ) (s : Saved A) → lastSave b (w .saves) ≡ savedAt s → Fair w (restore b)
-    fairRefused : (b : List ℕ) → (calls .resumed b (w .now) .number ≡ 0 → ⊥) → Fair w (restore b)
+    fairRefused : (b : List ℕ) → (calls .resumed b (w .now) .said ≡ 0 → ⊥) → Fair w (restore b)
 
   pub data AllFair : RunState A → List Call → Type 0 where
     fairNil : {w : RunState A} → AllFair w []
@@ -108,10 +101,10 @@ module _ {A : Type 0} (calls : Calls A) where
 
 -- ---- calls on a network of n nodes, by the meaning; how an image is written and read are parameters
 
-module _ (write : ℕ → List ℕ → Network → Returned (List ℕ)) (read : List ℕ → Network → Returned Network) (n : ℕ) where
+module _ (write : ℕ → List ℕ → Network → Outcome ℕ (List ℕ)) (read : List ℕ → Network → Outcome ℕ Network) (n : ℕ) where
   -- an event with another n is refused with 1
-  abbrev pub stepMeant : ℕ → Event → Network → Stepped Network
-  stepMeant m e p = cond (eqb m n) (record { said = answer n p e; after = next n p e }) (record { said = saidRefused 1 0 0; after = p })
+  abbrev pub stepMeant : ℕ → Event → Network → Outcome Said Network
+  stepMeant m e p = cond (eqb m n) (outcome (answer n p e) (next n p e)) (outcome (saidRefused (why 1 0 0)) p)
 
   abbrev pub meant : Calls Network
   meant = record { stepped = stepMeant; written = write; resumed = read }

@@ -11,10 +11,8 @@ use lib.Signed.{ltZ}
 use lib.Dec.{ltb}
 use lib.ListN.{length}
 use borrow.Author.Tests.{ltb-true, ltb-false, lt-ltb, le-ltb}
+use Rattle.basics.proofs.Tests.{clash, not-true-is-false}
 use Rattle.height.specs.Order.{before, same}
-
-pub clash {ℓ} : {X : Type ℓ} {b : Bool} → b ≡ true → b ≡ false → X
-clash p q = let z : _≡_ {A = ℕ} 0 1 = cc in absurd (omega arith)
 
 pub ltZ-irrefl : (x : ℤ) → ltZ x x ≡ false
 ltZ-irrefl (pos a) = le-ltb a a (omega arith)
@@ -58,10 +56,6 @@ compared (negsuc a) (negsuc b) = comparedNeg a b (byTests a b (ltb a b) (ltb b a
 pub true-or-false : (b : Bool) → (b ≡ true) ⊎ (b ≡ false)
 true-or-false true = inl refl
 true-or-false false = inr refl
-
-pub not-true-is-false : (b : Bool) → (b ≡ true → ⊥) → b ≡ false
-not-true-is-false true h = absurd (h refl)
-not-true-is-false false h = refl
 
 pub ltZ-asym : (x y : ℤ) → ltZ x y ≡ true → ltZ y x ≡ false
 ltZ-asym x y h = not-true-is-false (ltZ y x) (λ k. clash (ltZ-trans x y x h k) (ltZ-irrefl x))

@@ -3,6 +3,9 @@
 use Prim.Native.Nat.{ℕ, suc, max}
 use mathlib.Core.Bool.{cond}
 use lib.Dec.{ltb}
+use Rattle.refusal.specs.Outcome.{Answered, accepted, refusedWith}
+use Rattle.refusal.specs.Refusal.{why, whyOf}
+use Rattle.refusal.specs.declared.Refusal.the-variants.{ClockEnd}
 use Rattle.height.specs.declared.Moved.{Moved}
 use Rattle.height.specs.declared.Moved.the-variants.{To, AtEnd}
 
@@ -11,15 +14,10 @@ abbrev pub lastTime : ℕ
 lastTime = 4294967295
 
 -- 0 and the moved clock, or 7 and no clock
-pub record SaidMoved : Type 0 where
-  pub number : ℕ
-  pub clock : ℕ
-
-abbrev pub saidMoved : Moved → SaidMoved
-saidMoved (To t) = record { number = 0; clock = t .0 }
-saidMoved AtEnd = record { number = 7; clock = 0 }
+abbrev pub saidMoved : Moved → Answered ℕ
+saidMoved (To t) = accepted (t .0)
+saidMoved AtEnd = refusedWith 0 (whyOf ClockEnd)
 
 -- one more than the larger of the clock and the stamp, unless that passes the clock's end
-unfoldable pub clockAfter : ℕ → ℕ → SaidMoved
-clockAfter clock stamp =
-    cond (ltb (max clock stamp) lastTime) (record { number = 0; clock = suc (max clock stamp) }) (record { number = 7; clock = 0 })
+unfoldable pub clockAfter : ℕ → ℕ → Answered ℕ
+clockAfter clock stamp = cond (ltb (max clock stamp) lastTime) (accepted (suc (max clock stamp))) (refusedWith 0 (why 7 0 0))

@@ -5,10 +5,10 @@ use native.Mathlib.Omega.{arith}
 use mathlib.Core.Bool.{Bool, true, false, not, cond, _&&_}
 use mathlib.Core.Path.{_≡_, refl}
 use lib.Dec.{ltb, eqb}
-use borrow.Author.Tests.{eqb-false, not-true, not-false, ltb-false}
+use borrow.Author.Tests.{eqb-true, eqb-false, not-true, not-false, ltb-false}
 use Rattle.protocol.specs.Network.{Node, Network, isNode}
 use Rattle.basics.specs.Functions.{every}
-use Rattle.protocol.specs.Refusal.{misnamed, unfit, unfitNumber, late, tooDeep, hasRoom, crowded, returned}
+use Rattle.protocol.specs.Refusal.{misnamed, unfit, unfitNumber, late, tooDeep, hasRoom, crowded, returned, accepts}
 use Rattle.protocol.specs.Step.{Event, up, down, receive, home, peer, local, cleared}
 use Rattle.basics.proofs.Tests.{and-left, and-right}
 use Rattle.protocol.proofs.NodeLaws.{is-node}
@@ -69,3 +69,7 @@ accepted n p e h =
       shallow = k .0;
       spacious = not-false (every n (hasRoom (local n p e) (cleared p e (home e)))) (w .0);
     }
+
+pub accepts-accepted : (n : ℕ) (p : Network) (e : Event) → accepts n p e ≡ true → Accepted n p e
+unfolding accepts
+accepts-accepted n p e i = accepted n p e (eqb-true (returned n p e) 0 i)

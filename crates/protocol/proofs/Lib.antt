@@ -1,8 +1,7 @@
--- Laws and theorems about the meaning; a file uses only those above it. Each says at its top what it shows and what it assumes.
--- Said, SoundStep, Locality, Leaders, Groups, SavesLaws, LastSave, Runs, Cases and Theorems hold the results, the others lead to them.
+-- Laws and theorems about one event; a file uses only those above it.
+-- Said, SoundStep, Locality and Cases hold the results, the others lead to them.
 pub mod Said
-pub mod TestsLaws
-pub mod AllOf
+pub mod NodeLaws
 pub mod Channels
 pub mod RuleLaws
 pub mod RuleCases
@@ -16,18 +15,7 @@ pub mod StepKeeps
 pub mod Soundness
 pub mod StepFits
 pub mod Restrict
-pub mod SentSet
-pub mod HistoryLaws
 pub mod Holding
-pub mod CountLaws
-pub mod Quiescence
-pub mod Good
 pub mod SoundStep
 pub mod Locality
-pub mod Leaders
-pub mod Groups
-pub mod SavesLaws
-pub mod LastSave
-pub mod Runs
 pub mod Cases
-pub mod Theorems

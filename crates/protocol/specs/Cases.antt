@@ -2,17 +2,17 @@
 -- Each row: n, the start network, the events, and what must come of them. At the end `readings`: more rows, for other wrong readings.
 use Prim.Native.Nat.{ℕ}
 use mathlib.Core.Bool.{Bool, true, false, _||_}
-use mathlib.Core.List.{List, [], _∷_, _++_}
+use mathlib.Core.List.{List, [], _∷_, _++_, map}
 use lib.Dec.{eqb}
 use lib.IntN.{ℤ, pos, negsuc}
 use Rattle.height.specs.Height.{zeroHeight}
 use Rattle.height.specs.declared.Height.{Height}
 use Rattle.protocol.specs.Answer.{Said}
 use Rattle.protocol.specs.Quiet.{quiet}
-use Rattle.basics.specs.Functions.{update}
+use Rattle.basics.specs.Functions.{update, afterAll, sayAll}
 use Rattle.protocol.specs.Holds.{sound}
 use Rattle.protocol.specs.Network.{Network, fresh}
-use Rattle.protocol.specs.Refusal.{answers, nextAll}
+use Rattle.protocol.specs.Refusal.{answer, next}
 use Rattle.protocol.specs.Step.{Event, up, down, receive}
 use Rattle.protocol.specs.Times.{timely}
 
@@ -239,32 +239,21 @@ readings =
 
 -- ---- what comes of a case
 
-abbrev pub letters : List Said → List ℕ
-letters [] = []
-letters (s ∷ ss) = s .rule ∷ letters ss
+abbrev pub heldIn : Network → Held → Held
+heldIn p x = held (x .node) (p .clock (x .node)) (p .height (x .node) (x .node))
 
-abbrev pub setsSent : List Said → List ℕ
-setsSent [] = []
-setsSent (s ∷ ss) = s .sentTo ∷ setsSent ss
+abbrev pub saidIn : Case → List Said
+saidIn c = sayAll (next (c .nodes)) (answer (c .nodes)) (c .start) (c .events)
 
-abbrev pub heldIn : Network → List Held → List Held
-heldIn p [] = []
-heldIn p (x ∷ xs) = held (x .node) (p .clock (x .node)) (p .height (x .node) (x .node)) ∷ heldIn p xs
+abbrev pub endOf : Case → Network
+endOf c = afterAll (next (c .nodes)) (c .start) (c .events)
 
 abbrev pub outcomeOf : Case → Expected
 outcomeOf c = record {
   startSound = sound (c .nodes) (c .start);
   startTimely = timely (c .nodes) (c .start);
-  rules = letters (answers (c .nodes) (c .start) (c .events));
-  sets = setsSent (answers (c .nodes) (c .start) (c .events));
-  held = heldIn (nextAll (c .nodes) (c .start) (c .events)) (c .expected .held);
-  isQuiet = quiet (c .nodes) (nextAll (c .nodes) (c .start) (c .events));
+  rules = map (λ s. s .value .rule) (saidIn c);
+  sets = map (λ s. s .value .sentTo) (saidIn c);
+  held = map (heldIn (endOf c)) (c .expected .held);
+  isQuiet = quiet (c .nodes) (endOf c);
 }
-
-abbrev pub outcomes : List Case → List Expected
-outcomes [] = []
-outcomes (c ∷ cs) = outcomeOf c ∷ outcomes cs
-
-abbrev pub expectations : List Case → List Expected
-expectations [] = []
-expectations (c ∷ cs) = c .expected ∷ expectations cs

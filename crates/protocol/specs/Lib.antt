@@ -1,6 +1,4 @@
--- Document 01 as definitions, in the order of its sections, after Functions (two tests, and a change at one place). Start with Network.
--- Assumes nothing: these are definitions.
-pub mod Functions
+-- Document 01 as definitions, in the order of its sections. Start with Network; Cases are the plots worked by hand.
 pub mod Network
 pub mod Holds
 pub mod Times
@@ -10,7 +8,5 @@ pub mod Rules
 pub mod Answer
 pub mod Step
 pub mod Refusal
-pub mod History
-pub mod Component
-pub mod Run
+pub mod Quiet
 pub mod Cases

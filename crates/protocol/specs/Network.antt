@@ -1,8 +1,9 @@
 -- What a node holds, and the fresh network: document 01, "What a station holds".
 -- A network (document 01: plot) is functions of node numbers. Outside 1 to n a grown network stays as the fresh one.
-use Prim.Native.Nat.{ℕ}
+use Prim.Native.Nat.{ℕ, _≤_}
 use mathlib.Core.Bool.{Bool, false, cond, _&&_, _||_}
 use mathlib.Core.List.{List, []}
+use mathlib.Core.Path.{_≡_}
 use lib.Dec.{eqb, leb}
 use lib.IntN.{pos}
 use Rattle.height.specs.declared.Height.{Height}
@@ -24,6 +25,17 @@ pub record Network : Type 0 where
 -- a node number (document 01: station): 1 to n
 abbrev pub isNode : ℕ → ℕ → Bool
 isNode n u = leb 1 u && leb u n
+
+-- the same as a fact
+pub record Node (n u : ℕ) : Type 0 where
+  pub low : 1 ≤ u
+  pub high : u ≤ n
+
+-- two different nodes
+pub record Two (n u v : ℕ) : Type 0 where
+  pub one : Node n u
+  pub other : Node n v
+  pub differ : u ≡ v → ⊥
 
 -- channel u to v is up exactly when v is in N or F of u
 abbrev pub upTo : Network → ℕ → ℕ → Bool

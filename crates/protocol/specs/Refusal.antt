@@ -2,13 +2,14 @@
 -- (1 and 2 are about the lent tables.) A refused event changes nothing.
 use Prim.Native.Nat.{ℕ}
 use mathlib.Core.Bool.{Bool, false, not, cond, _&&_, _||_}
-use mathlib.Core.List.{List, [], _∷_}
+use mathlib.Core.List.{List}
 use lib.Dec.{eqb, ltb}
 use lib.IntN.{ℤ}
 use lib.ListN.{length}
 use lib.Signed.{ltZ}
 use Rattle.height.specs.Clock.{lastTime}
 use Rattle.nodeset.specs.NodeSet.{setOf}
+use Rattle.refusal.specs.Refusal.{why}
 use Rattle.protocol.specs.declared.Rule.{Rule}
 use Rattle.protocol.specs.declared.Rule.the-variants.{ChannelUp, ElectSelf, StartNewRefLevel, NoChange, Ignored}
 use Rattle.protocol.specs.declared.Rule.the-variants.{ReflectRefLevel, PropagateLargestRefLevel, AdoptLpIfPriority, Reply}
@@ -72,18 +73,8 @@ accepts n p e = eqb (returned n p e) 0
 -- the whole answer
 unfoldable pub answer : ℕ → Network → Event → Said
 answer n p e =
-    cond (accepts n p e) (saidRule (local n p e .rule) (setOf n (local n p e .sent))) (saidRefused (returned n p e) 0 0)
+    cond (accepts n p e) (saidRule (local n p e .rule) (setOf n (local n p e .sent))) (saidRefused (why (returned n p e) 0 0))
 
 -- the network after an event, accepted or refused
 unfoldable pub next : ℕ → Network → Event → Network
 next n p e = cond (accepts n p e) (step n p e) p
-
--- ---- lists of events, refused ones among them
-
-unfoldable pub nextAll : ℕ → Network → List Event → Network
-nextAll n p [] = p
-nextAll n p (e ∷ es) = nextAll n (next n p e) es
-
-unfoldable pub answers : ℕ → Network → List Event → List Said
-answers n p [] = []
-answers n p (e ∷ es) = answer n p e ∷ answers n (next n p e) es

@@ -1,7 +1,7 @@
 -- The three events: document 01, "The three events" (source 001, section 3.5). What an accepted event leaves.
 -- In three layers: the rule (Rules), what it leaves at its node (`Local`), and the network after it (`commit`).
 use Prim.Native.Nat.{ℕ}
-use mathlib.Core.Bool.{Bool, true, false, cond, _||_}
+use mathlib.Core.Bool.{Bool, true, false, cond, _&&_, _||_}
 use mathlib.Core.List.{List, [], _∷_, _++_, tail}
 use lib.Dec.{eqb}
 use lib.IntN.{pos, sucℤ, predℤ}
@@ -30,6 +30,17 @@ abbrev pub peer : Event → ℕ
 peer (up u v) = v
 peer (down u v) = v
 peer (receive v u) = v
+
+-- the event is a down of u, v; a receipt at v from u
+abbrev pub isDown : Event → ℕ → ℕ → Bool
+isDown (up a b) u v = false
+isDown (down a b) u v = eqb u a && eqb v b
+isDown (receive b a) u v = false
+
+abbrev pub isReceipt : Event → ℕ → ℕ → Bool
+isReceipt (up a b) u v = false
+isReceipt (down a b) u v = false
+isReceipt (receive b a) u v = eqb u b && eqb v a
 
 -- ---- what a rule does at u: v is the other node of the event, t the moved clock T
 

@@ -1,6 +1,7 @@
 // What an event answers: the rule carried out and the set sent to, or one refusal
 // (document 01, "The three events" and "Returned numbers"). The meaning of the step is in specs/.
 use height::ReferenceLevel;
+use refusal::Refusal;
 
 // What an accepted event did. The names are those of source 001's actions and subroutines; the letters are document 01's.
 pub enum Rule {
@@ -13,19 +14,6 @@ pub enum Rule {
     PropagateLargestRefLevel(ReferenceLevel), // P, with the level taken
     AdoptLpIfPriority(u32), // A, with the node adopted from
     Reply, // R
-}
-
-// Why an event is refused.
-pub enum Refusal {
-    Sizes, // 1
-    Fault(u32, u32), // 2, with the pair of the first fault
-    NodeNumber, // 3
-    AlreadyUp, // 4
-    AlreadyDown, // 5
-    NoMessage, // 6
-    ClockEnd, // 7
-    DeltaEnd, // 8
-    ChannelFull, // 9
 }
 
 pub enum Answer {

@@ -14,7 +14,7 @@ use Rattle.refusal.specs.declared.Refusal.the-variants.{ChannelFull, Too
 use Rattle.refusal.specs.declared.Why.{Why}
 use Rattle.refusal.proofs.Refusal as reasons
 
-reasonFrom : Why → Refusal
+unfoldable pub reasonFrom : Why → Refusal
 reasonFrom w =
     cond (eqb (w .number) 1) Sizes (cond (eqb (w .number) 2) (Fault (w .u) (w .v)) (cond (eqb (w .number) 3) NodeNumber
     (cond (eqb (w .number) 4) AlreadyUp (cond (eqb (w .number) 5) AlreadyDown (cond (eqb (w .number) 6) NoMessage
@@ -22,7 +22,7 @@ reasonFrom w =
     (cond (eqb (w .number) 10) TooShort (cond (eqb (w .number) 11) BadHeader (cond (eqb (w .number) 12) BadEnd
     (cond (eqb (w .number) 13) NotPlace (cond (eqb (w .number) 14) NoRoom Malformed)))))))))))))
 
-reason-back : (r : Refusal) → reasonFrom (whyOf r) ≡ r
+pub reason-back : (r : Refusal) → reasonFrom (whyOf r) ≡ r
 unfolding reasonFrom
 reason-back Sizes = refl
 reason-back (Fault u v) = refl

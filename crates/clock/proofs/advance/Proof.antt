@@ -39,9 +39,10 @@ use denote.Triple.Table.{entered, cited}
 use denote.Triple.Clauses.{ensured, lasts}
 use denote.Triple.Walked.{says, Stays, stay-ref, stay-none, walkOf, AllGo, goes-none, goes-ref, Walks, ends-at, walked, walk-meets}
 use denote.Exit.{yes}
-use Rattle.clock.specs.Advance.{advancing, advanceOn}
+use Rattle.clock.specs.Advance.{advanceOn}
 use Rattle.clock.specs.declared.Advanced.{Advanced}
 use Rattle.height.specs.Clock.{saidMoved}
+use Rattle.refusal.specs.Outcome.{outcome}
 use Rattle.height.specs.declared.Moved.{Moved}
 use Rattle.height.specs.declared.Time.{Time}
 use Rattle.height.proofs.Moved as E
@@ -77,7 +78,7 @@ valsE = EL.vals E.the-type E′.the-laws
 
 -- what `advance_value` ensures
 abbrev Said : Time → Time → Advanced → Type 0
-Said h s r = advancing (saidMoved (r .moved)) (r .clock) ≡ advanceOn h s
+Said h s r = outcome (saidMoved (r .moved)) (r .clock) ≡ advanceOn h s
 
 module _ {M : Type 1} (𝓤 : URA M) (H : Heap 𝓤) (A : Atoms 𝓤) (mem : Memory → SProp 𝓤) (run : Routine → Fun 𝓤) where
   abbrev Adv : Contract 𝓤

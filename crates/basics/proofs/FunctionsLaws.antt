@@ -1,77 +1,13 @@
--- Tests that answer true or false, the test for a node number, tests over 1 to n, and functions changed in one place.
--- Assumes nothing.
+-- Tests over 1 to n, and functions changed in one place.
 use Prim.Native.Nat.{ℕ, zero, suc, _≤_}
 use native.Mathlib.Omega.{arith}
-use mathlib.Core.Bool.{Bool, true, false, _&&_, _||_}
+use mathlib.Core.Bool.{Bool, true, false, _&&_}
 use mathlib.Core.Logic.{_⊎_, inl, inr}
 use mathlib.Core.Path.{_≡_, refl, fun-ext}
-use lib.Dec.{eqb, leb}
-use borrow.Author.Tests.{eqb-true, eqb-false, eq-eqb, ne-eqb, leb-true, le-leb}
-use Rattle.basics.proofs.Tests.{clash, not-true-is-false}
-use Rattle.protocol.specs.Network.{Node, isNode}
+use lib.Dec.{eqb}
+use borrow.Author.Tests.{eq-eqb, ne-eqb}
 use Rattle.basics.specs.Functions.{every, update}
-
--- ---- a test, and its two answers
-
-pub data Choice (b : Bool) : Type 0 where
-  yes! : b ≡ true → Choice b
-  no! : b ≡ false → Choice b
-
-pub choice : (b : Bool) → Choice b
-choice true = yes! refl
-choice false = no! refl
-
-abbrev pub SameOrNot : ℕ → ℕ → Type 0
-SameOrNot a b = (a ≡ b) ⊎ (a ≡ b → ⊥)
-
-pub equal? : (a b : ℕ) → SameOrNot a b
-equal? a b = go (choice (eqb a b))
-  where
-    go : Choice (eqb a b) → SameOrNot a b
-    go (yes! e) = inl (eqb-true a b e)
-    go (no! e) = inr (eqb-false a b e)
-
-pub and-left : (a b : Bool) → (a && b) ≡ true → a ≡ true
-and-left true b h = refl
-and-left false b h = h
-
-pub and-right : (a b : Bool) → (a && b) ≡ true → b ≡ true
-and-right true b h = h
-and-right false b h = clash h refl
-
-pub and-both : {a b : Bool} → a ≡ true → b ≡ true → (a && b) ≡ true
-and-both p q = rw (p, q)
-
-pub neither-left : (a b : Bool) → (a || b) ≡ false → a ≡ false
-neither-left true b e = e
-neither-left false b e = refl
-
-pub neither-right : (a b : Bool) → (a || b) ≡ false → b ≡ false
-neither-right true b e = clash refl e
-neither-right false b e = e
-
-pub both-equal : (a u b v : ℕ) → (eqb a u && eqb b v) ≡ true → (a ≡ u) × (b ≡ v)
-both-equal a u b v e = (eqb-true a u (and-left (eqb a u) (eqb b v) e), eqb-true b v (and-right (eqb a u) (eqb b v) e))
-
-pub not-both : (a u b v : ℕ) → (a ≡ u → b ≡ v → ⊥) → (eqb a u && eqb b v) ≡ false
-not-both a u b v h = not-true-is-false (eqb a u && eqb b v) (λ e. let q = both-equal a u b v e in h (q .0) (q .1))
-
--- ---- a node number, and any other, by the test
-
-pub is-node : (n u : ℕ) → isNode n u ≡ true → Node n u
-is-node n u e = record {
-  low = leb-true 1 u (and-left (leb 1 u) (leb u n) e);
-  high = leb-true u n (and-right (leb 1 u) (leb u n) e);
-}
-
-pub node-passes : (n u : ℕ) → Node n u → isNode n u ≡ true
-node-passes n u a = rw (le-leb 1 u (a .low), le-leb u n (a .high))
-
-pub no-node : (n u : ℕ) → isNode n u ≡ false → Node n u → ⊥
-no-node n u e a = clash (node-passes n u a) e
-
-pub other-fails : (n u : ℕ) → (Node n u → ⊥) → isNode n u ≡ false
-other-fails n u d = not-true-is-false (isNode n u) (λ e. d (is-node n u e))
+use Rattle.basics.proofs.Tests.{Choice, yes!, no!, choice, SameOrNot, equal?, and-left, and-right, and-both, both-equal, clash, not-true-is-false}
 
 -- ---- tests over 1 to n
 

@@ -1,0 +1,2 @@
+-- What the meaning is written with.
+pub mod Functions

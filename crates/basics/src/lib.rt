@@ -1,0 +1,1 @@
+// Definitions and laws that every crate may use; no code.
