@@ -3,41 +3,22 @@
 ghost use mathlib.Core.Path.{_≡_};
 ghost use lib.Count.{ones};
 ghost use Rattle.protocol.specs.Answer.{said, saidRule};
-ghost use Rattle.protocol.specs.declared.Answer.the-variants.{Refused};
 use protocol::Answer;
-use protocol::Refusal;
 use protocol::Rule;
-
-// The returned number of a refusal.
-pub fn refusal_number(why: Refusal) -> u32
-    ensures { λ r. ⌜ r ≡ said (Refused why) .number ⌝ }
-{
-    match why {
-        Refusal::Sizes => 1,
-        Refusal::Fault(_, _) => 2,
-        Refusal::NodeNumber => 3,
-        Refusal::AlreadyUp => 4,
-        Refusal::AlreadyDown => 5,
-        Refusal::NoMessage => 6,
-        Refusal::ClockEnd => 7,
-        Refusal::DeltaEnd => 8,
-        Refusal::ChannelFull => 9,
-    }
-}
 
 // The returned number.
 pub fn number(answer: Answer) -> u32
-    ensures { λ r. ⌜ r ≡ said answer .number ⌝ }
+    ensures { λ r. ⌜ r ≡ said answer .why .number ⌝ }
 {
     match answer {
         Answer::Done(_, _) => 0,
-        Answer::Refused(why) => refusal_number(why),
+        Answer::Refused(why) => refusal::number(why),
     }
 }
 
 // A rule's letter.
 fn rule_letter(rule: Rule) -> u8
-    ensures { λ r. ⌜ r ≡ saidRule rule 0 .rule ⌝ }
+    ensures { λ r. ⌜ r ≡ saidRule rule 0 .value .rule ⌝ }
 {
     match rule {
         Rule::ChannelUp => b'U',
@@ -54,7 +35,7 @@ fn rule_letter(rule: Rule) -> u8
 
 // The rule's letter, or the dash of a refusal.
 pub fn letter(answer: Answer) -> u8
-    ensures { λ r. ⌜ r ≡ said answer .rule ⌝ }
+    ensures { λ r. ⌜ r ≡ said answer .value .rule ⌝ }
 {
     match answer {
         Answer::Done(rule, _) => rule_letter(rule),
@@ -64,7 +45,7 @@ pub fn letter(answer: Answer) -> u8
 
 // The number of messages sent: the count of ones in the set sent to.
 pub fn sent(answer: Answer) -> u32
-    ensures { λ r. ⌜ r ≡ ones (said answer .sentTo) ⌝ }
+    ensures { λ r. ⌜ r ≡ ones (said answer .value .sentTo) ⌝ }
 {
     match answer {
         Answer::Done(_, set) => nodeset::count(set),

@@ -11,7 +11,9 @@ use borrow.Author.Tests.{leb-true, le-leb, eqb-true, eqb-false, eq-eqb}
 use Rattle.protocol.specs.Network.{Node}
 use Rattle.basics.proofs.Tests.{Choice, yes!, no!, choice, equal?, and-left, and-right}
 use Rattle.tables.specs.Tables.{Tables, sized, Sized, width, cellWidth}
-use Rattle.lent.specs.Check.{SaidCheck, checked, pairAt, faultInRow, faultFrom, orElse, firstFault, checkOn}
+use Rattle.refusal.specs.Refusal.{why}
+use Rattle.refusal.specs.declared.Why.{Why}
+use Rattle.lent.specs.Check.{pairAt, faultInRow, faultFrom, orElse, firstFault, checkOn}
 
 -- ---- the sizes
 
@@ -35,7 +37,7 @@ unfolding sized
 is-sized n t s = rw (le-leb n 16 (s .few), le-leb 1 n (s .low), eq-eqb _ _ (s .nodes), eq-eqb _ _ (s .channels))
 
 module _ (n : ℕ) (t : Tables) where
-  pub check-sizes : sized n t ≡ false → checked 1 0 0 ≡ checkOn n t
+  pub check-sizes : sized n t ≡ false → why 1 0 0 ≡ checkOn n t
   unfolding checkOn
   check-sizes e = rw e
 
@@ -48,11 +50,11 @@ module _ (n : ℕ) (t : Tables) where
 two-not-zero : {X : Type 0} → _≡_ {A = ℕ} 2 0 → X
 two-not-zero e = absurd (omega arith)
 
-cond-none : (b : Bool) (rest : SaidCheck) (u v : ℕ) → cond b rest (checked 2 u v) .number ≡ 0 → (b ≡ true) × (rest .number ≡ 0)
+cond-none : (b : Bool) (rest : Why) (u v : ℕ) → cond b rest (why 2 u v) .number ≡ 0 → (b ≡ true) × (rest .number ≡ 0)
 cond-none true rest u v e = (refl, e)
 cond-none false rest u v e = two-not-zero e
 
-or-none : (s rest : SaidCheck) → orElse s rest .number ≡ 0 → (s .number ≡ 0) × (rest .number ≡ 0)
+or-none : (s rest : Why) → orElse s rest .number ≡ 0 → (s .number ≡ 0) × (rest .number ≡ 0)
 or-none s rest e = go (choice (eqb (s .number) 0))
   where
     go : Choice (eqb (s .number) 0) → (s .number ≡ 0) × (rest .number ≡ 0)
@@ -86,7 +88,7 @@ module _ (n : ℕ) (t : Tables) (sound : checkOn n t .number ≡ 0) where
   both : (sized n t ≡ true) × (firstFault n t .number ≡ 0)
   both = go (choice (sized n t)) (unfold checkOn in sound)
     where
-      go : Choice (sized n t) → cond (sized n t) (firstFault n t) (checked 1 0 0) .number ≡ 0 → (sized n t ≡ true) × (firstFault n t .number ≡ 0)
+      go : Choice (sized n t) → cond (sized n t) (firstFault n t) (why 1 0 0) .number ≡ 0 → (sized n t ≡ true) × (firstFault n t .number ≡ 0)
       go (yes! q) e = (q, rw q at e)
       go (no! q) e = let z : _≡_ {A = ℕ} 1 0 = rw q at e in absurd (omega arith)
 

@@ -32,8 +32,9 @@ use Rattle.tables.proofs.RowsLaws.{row-fits, pair-lt, node-length, node-put, no
 use Rattle.tables.proofs.TablesLaws.{tables-back}
 use Rattle.tables.proofs.WordRuns.{part-run, run-zero}
 use Rattle.tables.proofs.Wordy.{Wordy}
-use Rattle.lent.specs.Check.{checked}
-use Rattle.lent.specs.Fresh.{filled, freshOn}
+use Rattle.refusal.specs.Outcome.{outcome}
+use Rattle.refusal.specs.Refusal.{why}
+use Rattle.lent.specs.Fresh.{freshOn}
 
 -- ---- zero words
 
@@ -228,10 +229,10 @@ filled-all n u nodes channels low f past empty =
 -- ---- the two cases of `fresh`
 
 module _ (n : ℕ) (t : Tables) where
-  pub fresh-sized : {s : Tables} → sized n t ≡ true → s ≡ tablesOf n fresh → filled (checked 0 0 0) s ≡ freshOn n t
+  pub fresh-sized : {s : Tables} → sized n t ≡ true → s ≡ tablesOf n fresh → outcome (why 0 0 0) s ≡ freshOn n t
   unfolding freshOn
   fresh-sized e h = rw (e, h)
 
-  pub fresh-sizes : sized n t ≡ false → filled (checked 1 0 0) t ≡ freshOn n t
+  pub fresh-sizes : sized n t ≡ false → outcome (why 1 0 0) t ≡ freshOn n t
   unfolding freshOn
   fresh-sizes e = rw e

@@ -29,7 +29,8 @@ use Rattle.tables.proofs.Back.{Storable, node-of, cell-of, node-height, queue-b
 use Rattle.tables.proofs.RowsMore.{rows-at}
 use Rattle.pairs.specs.Pair.{ownSound, viewSound, channelSound, pairSound}
 use Rattle.lent.proofs.CheckLaws.{is-sized}
-use Rattle.lent.specs.Check.{checked, pairAt, faultInRow, faultFrom, firstFault, checkOn}
+use Rattle.refusal.specs.Refusal.{why}
+use Rattle.lent.specs.Check.{pairAt, faultInRow, faultFrom, firstFault, checkOn}
 
 -- ---- zero words
 
@@ -185,14 +186,14 @@ module _ (n : ℕ) (p : Network) (ok : Storable n p) (u : ℕ) (a : Node n u) wh
 
 -- ---- the check
 
-no-fault-row : (s : ℕ → ℕ → Bool) (n u v k : ℕ) → 1 ≤ v → v + k ≤ suc n → ((z : ℕ) → Node n z → s u z ≡ true) → faultInRow s u v k ≡ checked 0 0 0
+no-fault-row : (s : ℕ → ℕ → Bool) (n u v k : ℕ) → 1 ≤ v → v + k ≤ suc n → ((z : ℕ) → Node n z → s u z ≡ true) → faultInRow s u v k ≡ why 0 0 0
 unfolding faultInRow
 no-fault-row s n u v zero l h f = refl
 no-fault-row s n u v (suc k) l h f =
     rw (f v (record { low = l; high = omega arith })) (no-fault-row s n u (suc v) k (omega arith) (omega arith) f)
 
 no-fault-from : (s : ℕ → ℕ → Bool) (n u k : ℕ) → 1 ≤ u → u + k ≤ suc n → ((x z : ℕ) → Node n x → Node n z → s x z ≡ true)
-    → faultFrom s n u k ≡ checked 0 0 0
+    → faultFrom s n u k ≡ why 0 0 0
 unfolding faultFrom
 no-fault-from s n u zero l h f = refl
 no-fault-from s n u (suc k) l h f =
@@ -223,6 +224,6 @@ module _ (n : ℕ) (p : Network) (ok : Storable n p) (holds : sound n p ≡ true
   sizes : sized n (tablesOf n p) ≡ true
   sizes = is-sized n (tablesOf n p) (tables-sized n p low few)
 
-  pub sound-check : checkOn n (tablesOf n p) ≡ checked 0 0 0
+  pub sound-check : checkOn n (tablesOf n p) ≡ why 0 0 0
   unfolding checkOn firstFault
   sound-check = rw sizes (no-fault-from (pairAt n (tablesOf n p)) n 1 n (omega arith) (omega arith) place-back)

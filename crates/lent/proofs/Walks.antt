@@ -6,8 +6,11 @@ use native.Mathlib.Omega.{arith}
 use mathlib.Core.Bool.{Bool, true, false}
 use mathlib.Core.Path.{_≡_, refl, ap, sym, _∙_}
 use Rattle.lent.specs.declared.Checked.{Checked}
-use Rattle.lent.specs.declared.Checked.the-variants.{Sound, Fault}
-use Rattle.lent.specs.Check.{SaidCheck, checked, saidCheck, faultInRow, faultFrom, orElse}
+use Rattle.lent.specs.declared.Checked.the-variants.{Sound, Refused}
+use Rattle.refusal.specs.declared.Refusal.the-variants.{Fault}
+use Rattle.refusal.specs.Refusal.{why}
+use Rattle.refusal.specs.declared.Why.{Why}
+use Rattle.lent.specs.Check.{saidCheck, faultInRow, faultFrom, orElse}
 
 -- at the outer head, with row u next: no fault yet, and the whole answer is that of the rows from u on
 pub record Rows (s : ℕ → ℕ → Bool) (n : ℕ) (found : Checked) (u : ℕ) : Type 0 where
@@ -48,10 +51,10 @@ module _ (s : ℕ → ℕ → Bool) (n : ℕ) where
     low = omega arith;
     high = omega arith;
     none = r .none;
-    same = r .same ∙ ap (λ (g : SaidCheck). orElse g (faultFrom s n (u + 1) (n - u))) (step u v h e);
+    same = r .same ∙ ap (λ (g : Why). orElse g (faultFrom s n (u + 1) (n - u))) (step u v h e);
   }
 
-  past : (u v : ℕ) → n < v → faultInRow s u v (n + 1 - v) ≡ checked 0 0 0
+  past : (u v : ℕ) → n < v → faultInRow s u v (n + 1 - v) ≡ why 0 0 0
   unfolding faultInRow
   past u v h = let k : n + 1 - v ≡ 0 = omega arith in rw k
 
@@ -61,17 +64,17 @@ module _ (s : ℕ → ℕ → Bool) (n : ℕ) where
     high = omega arith;
     none = w .none;
     same =
-        r .same ∙ w .same ∙ ap (λ (g : SaidCheck). orElse g (faultFrom s n (u + 1) (n - u))) (past u v h)
+        r .same ∙ w .same ∙ ap (λ (g : Why). orElse g (faultFrom s n (u + 1) (n - u))) (past u v h)
         ∙ ap (faultFrom s n (u + 1)) (omega arith);
   }
 
-  bad : (u v : ℕ) → v ≤ n → s u v ≡ false → faultInRow s u v (n + 1 - v) ≡ checked 2 u v
+  bad : (u v : ℕ) → v ≤ n → s u v ≡ false → faultInRow s u v (n + 1 - v) ≡ why 2 u v
   unfolding faultInRow
   bad u v h e = let k : n + 1 - v ≡ suc (n - v) = omega arith in rw (k, e)
 
   pub found-at : (u v : ℕ) {f g : Checked} → Rows s n f u → Row s n u g v → v ≤ n → s u v ≡ false
-      → saidCheck (Fault u v) ≡ faultFrom s n 1 n
-  found-at u v r w h e = sym (r .same ∙ w .same ∙ ap (λ (g : SaidCheck). orElse g (faultFrom s n (u + 1) (n - u))) (bad u v h e))
+      → saidCheck (Refused (Fault u v)) ≡ faultFrom s n 1 n
+  found-at u v r w h e = sym (r .same ∙ w .same ∙ ap (λ (g : Why). orElse g (faultFrom s n (u + 1) (n - u))) (bad u v h e))
 
   pub found-none : (u : ℕ) {f : Checked} → Rows s n f u → n < u → saidCheck f ≡ faultFrom s n 1 n
   unfolding faultFrom

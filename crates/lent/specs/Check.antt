@@ -5,25 +5,17 @@ use mathlib.Core.Bool.{Bool, cond}
 use lib.Dec.{eqb}
 use Rattle.tables.specs.Tables.{Tables, sized, nodeOf, channelOf}
 use Rattle.pairs.specs.Pair.{pairSound}
+use Rattle.refusal.specs.Refusal.{why, whyOf}
+use Rattle.refusal.specs.declared.Why.{Why}
 use Rattle.lent.specs.declared.Checked.{Checked}
-use Rattle.lent.specs.declared.Checked.the-variants.{Sound, Sizes, Fault}
+use Rattle.lent.specs.declared.Checked.the-variants.{Sound, Refused}
 
--- ---- what a check says: 0, or 1, or 2 with the pair
+-- what a check says: 0, or 1, or 2 with the pair
+abbrev pub saidCheck : Checked → Why
+saidCheck Sound = why 0 0 0
+saidCheck (Refused r) = whyOf r
 
-pub record SaidCheck : Type 0 where
-  pub number : ℕ
-  pub faultAt : ℕ
-  pub faultWith : ℕ
-
-abbrev pub checked : ℕ → ℕ → ℕ → SaidCheck
-checked k u v = record { number = k; faultAt = u; faultWith = v }
-
-abbrev pub saidCheck : Checked → SaidCheck
-saidCheck Sound = checked 0 0 0
-saidCheck Sizes = checked 1 0 0
-saidCheck (Fault u v) = checked 2 u v
-
--- ---- the places
+-- ---- the pairs
 
 unfoldable pub pairAt : ℕ → Tables → ℕ → ℕ → Bool
 pairAt n t u v = pairSound n u v (nodeOf n u (t .nodes)) (channelOf n u v (t .channels))
@@ -31,21 +23,21 @@ pairAt n t u v = pairSound n u v (nodeOf n u (t .nodes)) (channelOf n u v (t .ch
 -- ---- the first fault, u ascending, then v ascending
 
 -- in row u, from v on, k places
-unfoldable pub faultInRow : (ℕ → ℕ → Bool) → ℕ → ℕ → ℕ → SaidCheck
-faultInRow holds u v zero = checked 0 0 0
-faultInRow holds u v (suc k) = let rest = faultInRow holds u (suc v) k in cond (holds u v) rest (checked 2 u v)
+unfoldable pub faultInRow : (ℕ → ℕ → Bool) → ℕ → ℕ → ℕ → Why
+faultInRow holds u v zero = why 0 0 0
+faultInRow holds u v (suc k) = let rest = faultInRow holds u (suc v) k in cond (holds u v) rest (why 2 u v)
 
-abbrev pub orElse : SaidCheck → SaidCheck → SaidCheck
+abbrev pub orElse : Why → Why → Why
 orElse s rest = cond (eqb (s .number) 0) rest s
 
 -- from row u on, k rows of n places
-unfoldable pub faultFrom : (ℕ → ℕ → Bool) → ℕ → ℕ → ℕ → SaidCheck
-faultFrom holds n u zero = checked 0 0 0
+unfoldable pub faultFrom : (ℕ → ℕ → Bool) → ℕ → ℕ → ℕ → Why
+faultFrom holds n u zero = why 0 0 0
 faultFrom holds n u (suc k) = let rest = faultFrom holds n (suc u) k in orElse (faultInRow holds u 1 n) rest
 
-unfoldable pub firstFault : ℕ → Tables → SaidCheck
+unfoldable pub firstFault : ℕ → Tables → Why
 firstFault n t = faultFrom (pairAt n t) n 1 n
 
 -- 1, else 2, else 0
-unfoldable pub checkOn : ℕ → Tables → SaidCheck
-checkOn n t = cond (sized n t) (firstFault n t) (checked 1 0 0)
+unfoldable pub checkOn : ℕ → Tables → Why
+checkOn n t = cond (sized n t) (firstFault n t) (why 1 0 0)

@@ -2,17 +2,18 @@
 // No function requires anything: what cannot be done is refused, and nothing lent changes.
 ghost use mathlib.Core.Path.{_≡_};
 ghost use Rattle.tables.specs.Tables.{atEntry, atExit, sized};
+ghost use Rattle.refusal.specs.Outcome.{outcome};
 ghost use Rattle.lent.specs.Check.{saidCheck, checkOn};
-ghost use Rattle.lent.specs.Fresh.{filled, freshOn};
+ghost use Rattle.lent.specs.Fresh.{freshOn};
+use refusal::Refusal;
 
 mod filling;
 mod search;
 
-// What a check answers: nothing at fault (0), sizes (1), or the first pair at fault (2).
+// What a check answers: nothing at fault (0), or why not: sizes (1), the first pair at fault (2).
 pub enum Checked {
     Sound,
-    Sizes,
-    Fault(u32, u32),
+    Refused(Refusal),
 }
 
 // n from 1 to 16, and the tables of the lengths for n.
@@ -33,16 +34,16 @@ pub fn check(n: u32, nodes: &[u32], channels: &[u32]) -> Checked
     if is_sized(n, nodes, channels) {
         return search::first_fault(n, nodes, channels);
     }
-    Checked::Sizes
+    Checked::Refused(Refusal::Sizes)
 }
 
 // The fresh network of n nodes.
 pub fn fresh(n: u32, nodes: &mut [u32], channels: &mut [u32]) -> Checked
-    ensures { λ r. ⌜ filled (saidCheck r) (atExit nodes channels) ≡ freshOn n (atEntry nodes channels) ⌝ }
+    ensures { λ r. ⌜ outcome (saidCheck r) (atExit nodes channels) ≡ freshOn n (atEntry nodes channels) ⌝ }
 {
     if is_sized(n, nodes, channels) {
         filling::fill(n, nodes, channels);
         return Checked::Sound;
     }
-    Checked::Sizes
+    Checked::Refused(Refusal::Sizes)
 }

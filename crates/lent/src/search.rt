@@ -5,6 +5,7 @@ ghost use Rattle.protocol.specs.Network.{Node};
 ghost use Rattle.tables.specs.Tables.{given, atEntry, Sized};
 ghost use Rattle.lent.specs.Check.{saidCheck, pairAt, firstFault};
 use super::Checked;
+use refusal::Refusal;
 
 // The pairAt of the pair u, v. As `pairs::pair_sound`, but with its parts called here, where the compiler opens them (docs/PERFORMANCE.md).
 fn pair_holds(n: u32, u: u32, v: u32, nodes: &[u32], channels: &[u32]) -> bool
@@ -30,7 +31,7 @@ pub fn first_fault(n: u32, nodes: &[u32], channels: &[u32]) -> Checked
         let mut v = 1;
         while v <= n {
             if !pair_holds(n, u, v, nodes, channels) {
-                found = Checked::Fault(u, v);
+                found = Checked::Refused(Refusal::Fault(u, v));
                 break 'search;
             }
             v += 1;

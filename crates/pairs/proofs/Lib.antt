@@ -1,4 +1,4 @@
 -- Laws of the test of one place.
 -- Assumes nothing of its own: each module says what it assumes.
-pub mod PlaceLaws
-pub mod HeldPlaces
+pub mod PairLaws
+pub mod HeldPairs

@@ -1,3 +1,3 @@
 -- The test of one place of the lent tables.
 -- Assumes nothing: these are definitions.
-pub mod Place
+pub mod Pair

@@ -1,7 +1,7 @@
 -- `pairs::channel_sound` meets its contract. Past 8 messages the first test fails.
 -- Assumes nothing.
 use borrow.Author.Needs.{needs}
-use Rattle.pairs.proofs.PlaceLaws.{channel-over, channel-test}
+use Rattle.pairs.proofs.PairLaws.{channel-over, channel-test}
 use Rattle.pairs.proofs.channel_sound.Statement.{statement}
 use Rattle.pairs.proofs.channel_sound.Tie as tie
 

@@ -2,7 +2,7 @@
 -- Assumes nothing.
 use mathlib.Core.Path.{_∙_}
 use borrow.Author.Needs.{needs}
-use Rattle.pairs.proofs.PlaceLaws.{low-member}
+use Rattle.pairs.proofs.PairLaws.{low-member}
 use Rattle.pairs.proofs.is_member.Statement.{statement}
 use Rattle.pairs.proofs.is_member.Tie as tie
 

@@ -9,7 +9,7 @@ use borrow.Author.Tests.{not-true, not-false}
 use Rattle.height.specs.Words.{heightAt}
 use Rattle.protocol.specs.Holds.{heightHolds}
 use Rattle.tables.specs.Cell.{messageAt}
-use Rattle.pairs.proofs.PlaceLaws.{MessagesFrom, messages-start, messages-next, messages-fault, messages-done}
+use Rattle.pairs.proofs.PairLaws.{MessagesFrom, messages-start, messages-next, messages-fault, messages-done}
 use Rattle.pairs.proofs.messages_hold.Statement.{statement}
 use Rattle.pairs.proofs.messages_hold.Tie as tie
 

@@ -8,7 +8,7 @@ use Rattle.nodeset.specs.NodeSet.{member}
 use Rattle.tables.specs.Cell.{allZero}
 use Rattle.tables.specs.Row.{neighborsIn}
 use Rattle.pairs.specs.Pair.{viewSound}
-use Rattle.pairs.proofs.PlaceLaws.{slice-part}
+use Rattle.pairs.proofs.PairLaws.{slice-part}
 use Rattle.pairs.proofs.view_sound.Statement.{statement}
 use Rattle.pairs.proofs.view_sound.Tie as tie
 
