@@ -14,7 +14,8 @@ use Rattle.bits.specs.Bits.{number, field, unpacked}
 use Rattle.image.specs.Places.{fieldIn, channelsPlace}
 use Rattle.image.specs.Widths.{messageWidth, heightWidth, nodeWidth}
 use Rattle.image_reading.specs.declared.Walk.{Walk}
-use Rattle.image_reading.specs.declared.Walk.the-variants.{At, Over, Cut}
+use Rattle.image_reading.specs.declared.Walk.the-variants.{At, Refused}
+use Rattle.refusal.specs.declared.Refusal.the-variants.{Fault, BadEnd}
 use Rattle.image_reading.specs.Walk.{channelStep, channelsWalk, walk, endsAt}
 
 -- ---- a place of bits against the number of bytes
@@ -37,7 +38,7 @@ unfolding channelStep
 own-channel d l u v q e = rw (eq-eqb u v e)
 
 module _ (d : ℕ) (xs : List ℕ) (u v q : ℕ) (other : u ≡ v → ⊥) where
-  pub no-count : length xs < (q + 11) / 8 → Cut ≡ channelStep d (unpacked xs) u v q
+  pub no-count : length xs < (q + 11) / 8 → Refused BadEnd ≡ channelStep d (unpacked xs) u v q
   unfolding channelStep
   no-count h = rw (ne-eqb u v other, count-cut xs q h)
 
@@ -46,11 +47,11 @@ module _ (d : ℕ) (xs : List ℕ) (u v q : ℕ) (other : u ≡ v → ⊥) where
     unfolding fieldIn field
     same = sym read
 
-    pub too-many : 8 < c → Over u v ≡ channelStep d (unpacked xs) u v q
+    pub too-many : 8 < c → Refused (Fault u v) ≡ channelStep d (unpacked xs) u v q
     unfolding channelStep
     too-many h = rw (ne-eqb u v other, count-stands xs q stands, same, lt-ltb 8 c h)
 
-    pub messages-cut : c ≤ 8 → length xs < (q + 4 + c * (112 + d) + 7) / 8 → Cut ≡ channelStep d (unpacked xs) u v q
+    pub messages-cut : c ≤ 8 → length xs < (q + 4 + c * (112 + d) + 7) / 8 → Refused BadEnd ≡ channelStep d (unpacked xs) u v q
     unfolding channelStep messageWidth
     messages-cut h k = rw (ne-eqb u v other, count-stands xs q stands, same, le-ltb 8 c h, cut-off xs (q + 4 + c * (112 + d)) k)
 
@@ -60,7 +61,7 @@ module _ (d : ℕ) (xs : List ℕ) (u v q : ℕ) (other : u ≡ v → ⊥) where
 
 -- ---- the returns of whole
 module _ (h d n : ℕ) (xs : List ℕ) where
-  pub nodes-cut : length xs < (h + n * (64 + (80 + d) * n) + 7) / 8 → Cut ≡ walk h d n (unpacked xs)
+  pub nodes-cut : length xs < (h + n * (64 + (80 + d) * n) + 7) / 8 → Refused BadEnd ≡ walk h d n (unpacked xs)
   unfolding walk channelsPlace nodeWidth heightWidth
   nodes-cut k = rw (cut-off xs (h + n * (64 + (80 + d) * n)) k)
 

@@ -1,42 +1,37 @@
 -- Each return of `examine` is what the definition says; an accepted walk ends inside the bytes.
--- w is the answer of the walk. Assumes nothing.
+-- w is the answer of the walk.
 use Prim.Native.Nat.{ℕ, _≤_, _<_, _^_}
 use native.Mathlib.Omega.{arith}
 use mathlib.Core.Bool.{true, false}
-use mathlib.Core.List.{List, [], _∷_}
-use mathlib.Core.Path.{_≡_, refl, sym, ap, _∙_}
+use mathlib.Core.List.{List}
+use mathlib.Core.Path.{_≡_, sym, ap, _∙_}
 use lib.ListN.{length}
-use types.Run.{miss}
 use Rattle.image.specs.Places.{imageEnd, tablesIn}
-use Rattle.lent.specs.Check.{SaidCheck, checked, firstFault}
+use Rattle.lent.specs.Check.{firstFault}
+use Rattle.refusal.specs.Refusal.{why, whyOf}
+use Rattle.refusal.specs.declared.Why.{Why}
 use Rattle.image_reading.specs.declared.Walk.{Walk}
-use Rattle.image_reading.specs.declared.Walk.the-variants.{At, Over, Cut}
+use Rattle.image_reading.specs.declared.Walk.the-variants.{At, Refused}
+use Rattle.refusal.specs.declared.Refusal.{Refusal}
 use Rattle.image_reading.specs.Examine.{Walkable, afterWalk, examined}
-use Rattle.image_reading.specs.Walk.{saidWalk, walk, endsAt}
-use Rattle.image_reading.proofs.Steps.{Stopped}
+use Rattle.image_reading.specs.Walk.{walk, endsAt}
 use Rattle.image_reading.proofs.WalkLaws.{walk-accepted}
 
-stopped-after : (h d n : ℕ) (l : List ℕ) (w : Walk) → Stopped w → saidWalk w ≡ afterWalk h d n l w
-unfolding afterWalk
-stopped-after h d n l (At q) k = absurd (miss (1 ∷ 2 ∷ []) 0 tt k)
-stopped-after h d n l (Over u v) k = refl
-stopped-after h d n l Cut k = refl
-
 module _ (h d n : ℕ) (l : List ℕ) {w : Walk} (walks : w ≡ walk h d n l) where
-  pub examined-stops : {x : SaidCheck} → x ≡ saidWalk w → Stopped w → x ≡ examined h d n l
-  unfolding examined
-  examined-stops e k = e ∙ stopped-after h d n l w k ∙ ap (afterWalk h d n l) walks
+  pub examined-stops : {r : Refusal} → w ≡ Refused r → whyOf r ≡ examined h d n l
+  unfolding examined afterWalk
+  examined-stops {r} e = ap (afterWalk h d n l) (sym e ∙ walks)
 
   module _ {q : ℕ} (on : w ≡ At q) where
     after : afterWalk h d n l (At q) ≡ examined h d n l
     unfolding examined
     after = ap (afterWalk h d n l) (sym on ∙ walks)
 
-    pub examined-bad-end : endsAt l q ≡ false → checked 12 0 0 ≡ examined h d n l
+    pub examined-bad-end : endsAt l q ≡ false → why 12 0 0 ≡ examined h d n l
     unfolding afterWalk
     examined-bad-end b = rw b at after
 
-    pub examined-contents : endsAt l q ≡ true → {x : SaidCheck} → x ≡ firstFault n (tablesIn h d n l) → x ≡ examined h d n l
+    pub examined-contents : endsAt l q ≡ true → {x : Why} → x ≡ firstFault n (tablesIn h d n l) → x ≡ examined h d n l
     unfolding afterWalk
     examined-contents b e = e ∙ (rw b at after)
 

@@ -1,4 +1,4 @@
--- The search of the contents, row by row and pairAt by pairAt: what holds at the head of each loop, and that each return is the first fault.
+-- The search of the contents, row by row and pair by pair: what holds at the head of each loop, and that each return is the first fault.
 -- Assumes, where rows and cells that were read are those of the tables, that the image is Walkable.
 use Prim.Native.Nat.{ℕ, zero, suc, _+_, _-_, _*_, _≤_, _<_}
 use native.Mathlib.Numerals.{add-one}
@@ -6,25 +6,28 @@ use native.Mathlib.Omega.{arith}
 use mathlib.Core.Bool.{Bool, true, false, cond}
 use mathlib.Core.List.{List, [], _∷_}
 use mathlib.Core.Path.{_≡_, refl, sym, ap, ap₂, _∙_}
-use types.Run.{miss}
 use Rattle.image.specs.Parts.{rowFrom}
 use Rattle.image.specs.Places.{recordsIn, tablesIn}
 use Rattle.image.specs.Widths.{nodeWidth}
 use Rattle.image.proofs.TablesRecords.{row-from, cell-from}
-use Rattle.lent.specs.Check.{SaidCheck, checked, pairAt, faultInRow, faultFrom, orElse}
+use Rattle.lent.specs.Check.{pairAt, faultInRow, faultFrom, orElse}
+use Rattle.refusal.specs.Refusal.{why, whyOf}
+use Rattle.refusal.specs.declared.Why.{Why}
 use Rattle.pairs.specs.Pair.{pairSound}
 use Rattle.image_reading.specs.declared.Walk.{Walk}
-use Rattle.image_reading.specs.declared.Walk.the-variants.{At, Over, Cut}
+use Rattle.image_reading.specs.declared.Walk.the-variants.{At, Refused}
+use Rattle.refusal.specs.declared.Refusal.{Refusal}
+use Rattle.refusal.specs.declared.Refusal.the-variants.{Fault}
+use Rattle.refusal.proofs.RefusalLaws.{never-0}
 use Rattle.image_reading.specs.Cells.{cellIn, cellBehind}
 use Rattle.image_reading.specs.Examine.{Walkable}
 use Rattle.image_reading.specs.Search.{rowHolds, Searched}
 use Rattle.image_reading.specs.Walk.{saidWalk}
 use Rattle.image_reading.proofs.ReadLaws.{ChannelAt, ChannelsAt, row-got, cell-behind, cell-got}
 use Rattle.image_reading.proofs.ShapeLaws.{records-shaped}
-use Rattle.image_reading.proofs.Steps.{Stopped}
 
 -- ---- one row
--- the first v places of row u hold
+-- the first v pairs of row u hold
 pub record Held (s : ℕ → ℕ → Bool) (n u v : ℕ) : Type 0 where
   pub high : v ≤ n
   pub same : faultInRow s u 1 n ≡ faultInRow s u (v + 1) (n - v)
@@ -34,17 +37,17 @@ module _ {s : ℕ → ℕ → Bool} {n u : ℕ} where
   held-none = record { high = omega arith; same = ap (faultInRow s u 1) (omega arith) }
 
   module _ {v : ℕ} (held : Held s n u v) where
-    one : v < n → faultInRow s u 1 n ≡ cond (s u (v + 1)) (faultInRow s u (v + 1 + 1) (n - (v + 1))) (checked 2 u (v + 1))
+    one : v < n → faultInRow s u 1 n ≡ cond (s u (v + 1)) (faultInRow s u (v + 1 + 1) (n - (v + 1))) (why 2 u (v + 1))
     unfolding faultInRow
     one h =
         let k : n - v ≡ suc (n - (v + 1)) = omega arith in
         held .same ∙ ap (faultInRow s u (v + 1)) k
-        ∙ ap (λ (x : ℕ). cond (s u (v + 1)) (faultInRow s u x (n - (v + 1))) (checked 2 u (v + 1))) (sym (add-one (v + 1)))
+        ∙ ap (λ (x : ℕ). cond (s u (v + 1)) (faultInRow s u x (n - (v + 1))) (why 2 u (v + 1))) (sym (add-one (v + 1)))
 
     pub held-next : v < n → s u (v + 1) ≡ true → Held s n u (v + 1)
     held-next h t = record { high = omega arith; same = one h ∙ rw t }
 
-    pub held-fault : {q : ℕ} → v < n → s u (v + 1) ≡ false → Searched (faultInRow s u 1 n) q (Over u (v + 1))
+    pub held-fault : {q : ℕ} → v < n → s u (v + 1) ≡ false → Searched (faultInRow s u 1 n) q (Refused (Fault u (v + 1)))
     held-fault h t = record {
       said = sym (one h ∙ rw t);
       ends = λ p e. absurd (let z : _≡_ {A = ℕ} 0 1 = cc in omega arith);
@@ -56,7 +59,7 @@ module _ {s : ℕ → ℕ → Bool} {n u : ℕ} where
         let k : n - v ≡ 0 = omega arith in
         record { said = sym (held .same ∙ ap (faultInRow s u (v + 1)) k); ends = λ r f. let z : p ≡ r = cc in sym z ∙ e }
 
--- the pairAt that was tested, of the cell that was read
+-- the pair that was tested, of the cell that was read
 pub place-read : {d : ℕ} {l : List ℕ} {u q v p : ℕ} → ChannelAt d l u q v p → (n : ℕ) (row : List ℕ) {cell : List ℕ} {b : Bool}
     → cell ≡ cellIn d l u (v + 1) p → b ≡ pairSound n u (v + 1) row cell → rowHolds d n l row q u (v + 1) ≡ b
 unfolding rowHolds
@@ -64,22 +67,17 @@ place-read {d} {l} {u} {q} {v} at n row e t =
     sym (t ∙ ap (pairSound n u (v + 1) row) (cell-behind at e ∙ ap (cellBehind d l u q) (sym (add-one v))))
 
 -- ---- all rows
--- the places of the first u rows hold
+-- the pairs of the first u rows hold
 pub record RowsHeld (s : ℕ → ℕ → Bool) (n u : ℕ) : Type 0 where
   pub high : u ≤ n
   pub same : faultFrom s n 1 n ≡ faultFrom s n (u + 1) (n - u)
-
-stopped-first : (w : Walk) (rest : SaidCheck) → Stopped w → orElse (saidWalk w) rest ≡ saidWalk w
-stopped-first (At q) rest k = absurd (miss (1 ∷ 2 ∷ []) 0 tt k)
-stopped-first (Over u v) rest k = refl
-stopped-first Cut rest k = refl
 
 module _ {s : ℕ → ℕ → Bool} {n : ℕ} where
   pub rows-held-none : RowsHeld s n 0
   rows-held-none = record { high = omega arith; same = ap (faultFrom s n 1) (omega arith) }
 
   module _ {u : ℕ} (held : RowsHeld s n u) where
-    pub rows-held-all : n ≤ u → checked 0 0 0 ≡ faultFrom s n 1 n
+    pub rows-held-all : n ≤ u → why 0 0 0 ≡ faultFrom s n 1 n
     unfolding faultFrom
     rows-held-all h = let k : n - u ≡ 0 = omega arith in sym (held .same ∙ ap (faultFrom s n (u + 1)) k)
 
@@ -91,7 +89,7 @@ module _ {s : ℕ → ℕ → Bool} {n : ℕ} where
           let k : n - u ≡ suc (n - (u + 1)) = omega arith in
           held .same ∙ ap (faultFrom s n (u + 1)) k
           ∙ ap (λ (x : ℕ). orElse (faultInRow s (u + 1) 1 n) (faultFrom s n x (n - (u + 1)))) (sym (add-one (u + 1)))
-          ∙ ap (λ (x : SaidCheck). orElse x (faultFrom s n (u + 1 + 1) (n - (u + 1)))) (sym said)
+          ∙ ap (λ (x : Why). orElse x (faultFrom s n (u + 1 + 1) (n - (u + 1)))) (sym said)
 
       pub rows-held-next : {p : ℕ} → w ≡ At p → RowsHeld s n (u + 1)
       rows-held-next e = record {
@@ -99,8 +97,9 @@ module _ {s : ℕ → ℕ → Bool} {n : ℕ} where
         same = row ∙ ap (λ (x : Walk). orElse (saidWalk x) (faultFrom s n (u + 1 + 1) (n - (u + 1)))) e;
       }
 
-      pub rows-held-fault : Stopped w → saidWalk w ≡ faultFrom s n 1 n
-      rows-held-fault k = sym (row ∙ stopped-first w (faultFrom s n (u + 1 + 1) (n - (u + 1))) k)
+      pub rows-held-fault : {r : Refusal} → w ≡ Refused r → whyOf r ≡ faultFrom s n 1 n
+      rows-held-fault {r} e =
+          sym (row ∙ ap (λ (x : Walk). orElse (saidWalk x) (faultFrom s n (u + 1 + 1) (n - (u + 1)))) e ∙ (rw (never-0 r)))
 
 -- ---- the rows and cells read are those of the tables
 fault-same : (s t : ℕ → ℕ → Bool) (u m v k : ℕ) → v + k ≡ m → ((j : ℕ) → j < m → s u (suc j) ≡ t u (suc j))
@@ -108,13 +107,13 @@ fault-same : (s t : ℕ → ℕ → Bool) (u m v k : ℕ) → v + k ≡ m → ((
 unfolding faultInRow
 fault-same s t u m v zero e h = refl
 fault-same s t u m v (suc k) e h =
-    ap₂ (λ (b : Bool) (x : SaidCheck). cond b x (checked 2 u (suc v))) (h v (omega arith))
+    ap₂ (λ (b : Bool) (x : Why). cond b x (why 2 u (suc v))) (h v (omega arith))
     (fault-same s t u m (suc v) k (omega arith) h)
 
 -- row k + 1, whose channels start at p
 pub row-searched : {h d n : ℕ} {l : List ℕ} {k p : ℕ} → ChannelsAt h d n l k p → Walkable h d n l → k < n
     → {row : List ℕ} → row ≡ rowFrom d n l (h + k * nodeWidth d n)
-    → {x : SaidCheck} → x ≡ faultInRow (rowHolds d n l row p) (k + 1) 1 n → x ≡ faultInRow (pairAt n (tablesIn h d n l)) (k + 1) 1 n
+    → {x : Why} → x ≡ faultInRow (rowHolds d n l row p) (k + 1) 1 n → x ≡ faultInRow (pairAt n (tablesIn h d n l)) (k + 1) 1 n
 unfolding rowHolds pairAt tablesIn
 row-searched {h} {d} {n} {l} {k} {p} at w b {row} e said =
     said ∙ ap (λ (x : ℕ). faultInRow (rowHolds d n l row p) x 1 n) (add-one k)

@@ -16,7 +16,8 @@ use types.Run.{OneOf, miss}
 use Rattle.image.specs.Places.{fieldIn, walked, channelNext}
 use Rattle.image.specs.Widths.{messageWidth}
 use Rattle.image_reading.specs.declared.Walk.{Walk}
-use Rattle.image_reading.specs.declared.Walk.the-variants.{At, Over, Cut}
+use Rattle.image_reading.specs.declared.Walk.the-variants.{At, Refused}
+use Rattle.refusal.specs.declared.Refusal.the-variants.{Fault, BadEnd}
 use Rattle.image_reading.specs.Walk.{channelStep, onward, steps}
 use Rattle.image.proofs.ChannelLaws.{next-same, next-other}
 use Rattle.image.proofs.Bounds.{messages-small}
@@ -24,14 +25,13 @@ use Rattle.image_reading.proofs.Walk as declared
 
 -- a walk that `let .. else` turns away
 abbrev pub Stopped : Walk → Type 0
-Stopped w = OneOf (1 ∷ 2 ∷ []) (tagOf declared.the-type w)
+Stopped w = OneOf (1 ∷ []) (tagOf declared.the-type w)
 
 -- ---- stopped walks
 stays : (w : Walk) (f : ℕ → Walk) → Stopped w → onward w f ≡ w
 unfolding onward
-stays (At q) f k = absurd (miss (1 ∷ 2 ∷ []) 0 tt k)
-stays (Over u v) f k = refl
-stays Cut f k = refl
+stays (At q) f k = absurd (miss (1 ∷ []) 0 tt k)
+stays (Refused r) f k = refl
 
 steps-stay : (f : ℕ → ℕ → Walk) (k q : ℕ) (w : Walk) → Stopped w → steps f k q ≡ w → (j : ℕ) → steps f (k + j) q ≡ w
 unfolding steps
@@ -80,8 +80,7 @@ module _ (f : ℕ → ℕ → Walk) (m n q : ℕ) where
 onward-at : (w : Walk) (f : ℕ → Walk) (r : ℕ) → onward w f ≡ At r → (p : ℕ) × (w ≡ At p) × (f p ≡ At r)
 unfolding onward
 onward-at (At p) f r e = (p, refl, e)
-onward-at (Over u v) f r e = absurd (let z : _≡_ {A = ℕ} 0 1 = cc in omega arith)
-onward-at Cut f r e = absurd (let z : _≡_ {A = ℕ} 0 1 = cc in omega arith)
+onward-at (Refused x) f r e = absurd (let z : _≡_ {A = ℕ} 0 1 = cc in omega arith)
 
 -- from q to r is at most m, and inside the image if q is
 pub record Near (m : ℕ) (l : List ℕ) (q r : ℕ) : Type 0 where
@@ -142,7 +141,7 @@ channel-stepped d l u v q r small e =
     c = fieldIn l q 4
 
     go : (a b f g : Bool) → eqb u v ≡ a → ltb 8 c ≡ f → ltb (length l) (q + 4 + c * (112 + d)) ≡ g
-        → cond a (At q) (cond b Cut (cond f (Over u v) (cond g Cut (At (q + 4 + c * (112 + d)))))) ≡ At r → Stepped d l u v q r
+        → cond a (At q) (cond b (Refused BadEnd) (cond f (Refused (Fault u v)) (cond g (Refused BadEnd) (At (q + 4 + c * (112 + d)))))) ≡ At r → Stepped d l u v q r
     go true b f g ea ef eg w =
         let z : q ≡ r = cc in
         record {

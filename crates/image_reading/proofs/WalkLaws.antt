@@ -12,7 +12,8 @@ use lib.ListN.{length}
 use Rattle.image.specs.Places.{fieldIn, walked, channelNext, channelsNext, channelsPlace, channelsFromPlace, channelPlace, imageEnd}
 use Rattle.image.specs.Widths.{messageWidth, heightWidth, nodeWidth}
 use Rattle.protocol.specs.Network.{Node, Two}
-use Rattle.image_reading.specs.declared.Walk.the-variants.{At, Over, Cut}
+use Rattle.image_reading.specs.declared.Walk.the-variants.{At, Refused}
+use Rattle.refusal.specs.declared.Refusal.the-variants.{Fault, BadEnd}
 use Rattle.image_reading.specs.Examine.{Walkable}
 use Rattle.image_reading.specs.Walk.{channelStep, channelsFromWalk, channelsWalk, walk}
 use Rattle.image.proofs.PlaceLaws.{channel-on, channels-on, start-in, walked-le}
@@ -67,7 +68,7 @@ walk-starts : (h d n : ℕ) (l : List ℕ) (q : ℕ) → walk h d n l ≡ At q
 unfolding walk
 walk-starts h d n l q e = go (ltb (length l) (channelsPlace h d n)) refl e
   where
-    go : (b : Bool) → ltb (length l) (channelsPlace h d n) ≡ b → cond b Cut (channelsWalk d n l (channelsPlace h d n)) ≡ At q
+    go : (b : Bool) → ltb (length l) (channelsPlace h d n) ≡ b → cond b (Refused BadEnd) (channelsWalk d n l (channelsPlace h d n)) ≡ At q
         → (channelsPlace h d n ≤ length l) × (channelsWalk d n l (channelsPlace h d n) ≡ At q)
     go true eb w = absurd (let z : _≡_ {A = ℕ} 0 1 = cc in omega arith)
     go false eb w = (ltb-false (length l) (channelsPlace h d n) eb, w)
@@ -105,7 +106,7 @@ channel-goes d l u v q inside few = go (eqb u v) refl inside
     next = q + 4 + fieldIn l q 4 * messageWidth d
 
     go : (b : Bool) → eqb u v ≡ b → cond b q next ≤ length l
-        → cond b (At q) (cond (ltb (length l) (q + 4)) Cut (cond (ltb 8 (fieldIn l q 4)) (Over u v) (cond (ltb (length l) next) Cut (At next))))
+        → cond b (At q) (cond (ltb (length l) (q + 4)) (Refused BadEnd) (cond (ltb 8 (fieldIn l q 4)) (Refused (Fault u v)) (cond (ltb (length l) next) (Refused BadEnd) (At next))))
         ≡ At (cond b q next)
     go true e i = refl
     go false e i =

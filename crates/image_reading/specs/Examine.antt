@@ -5,25 +5,19 @@ use mathlib.Core.Bool.{cond}
 use mathlib.Core.List.{List}
 use lib.ListN.{length}
 use Rattle.image.specs.Places.{fieldIn, channelPlace, imageEnd, tablesIn}
-use Rattle.lent.specs.Check.{SaidCheck, checked, firstFault}
+use Rattle.lent.specs.Check.{firstFault}
 use Rattle.protocol.specs.Network.{Two}
-use Rattle.image_reading.specs.declared.Examined.{Examined}
-use Rattle.image_reading.specs.declared.Examined.the-variants.{Sound, Fault, BadEnd}
+use Rattle.refusal.specs.Refusal.{why, whyOf}
+use Rattle.refusal.specs.declared.Why.{Why}
 use Rattle.image_reading.specs.declared.Walk.{Walk}
-use Rattle.image_reading.specs.declared.Walk.the-variants.{At, Over, Cut}
-use Rattle.image_reading.specs.Walk.{saidWalk, walk, endsAt}
+use Rattle.image_reading.specs.declared.Walk.the-variants.{At, Refused}
+use Rattle.image_reading.specs.Walk.{walk, endsAt}
 
-abbrev pub saidExamined : Examined → SaidCheck
-saidExamined Sound = checked 0 0 0
-saidExamined (Fault u v) = checked 2 u v
-saidExamined BadEnd = checked 12 0 0
+unfoldable pub afterWalk : ℕ → ℕ → ℕ → List ℕ → Walk → Why
+afterWalk h d n l (At q) = cond (endsAt l q) (firstFault n (tablesIn h d n l)) (why 12 0 0)
+afterWalk h d n l (Refused r) = whyOf r
 
-unfoldable pub afterWalk : ℕ → ℕ → ℕ → List ℕ → Walk → SaidCheck
-afterWalk h d n l (At q) = cond (endsAt l q) (firstFault n (tablesIn h d n l)) (checked 12 0 0)
-afterWalk h d n l (Over u v) = saidWalk (Over u v)
-afterWalk h d n l Cut = saidWalk Cut
-
-unfoldable pub examined : ℕ → ℕ → ℕ → List ℕ → SaidCheck
+unfoldable pub examined : ℕ → ℕ → ℕ → List ℕ → Why
 examined h d n l = afterWalk h d n l (walk h d n l)
 
 -- what an accepted walk shows: every channel's count is at most 8, and all stands inside the image

@@ -6,35 +6,31 @@ use mathlib.Core.List.{List}
 use lib.Dec.{eqb, leb, ltb}
 use lib.ListN.{length}
 use Rattle.bits.specs.Bits.{field}
+use Rattle.refusal.specs.Outcome.{Answered, accepted, refusedWith}
+use Rattle.refusal.specs.Refusal.{why, whyOf}
+use Rattle.image_reading.specs.declared.Fields.{Fields}
 use Rattle.image_reading.specs.declared.Header.{Header}
-use Rattle.image_reading.specs.declared.Header.the-variants.{Good, Short, Wrong}
+use Rattle.image_reading.specs.declared.Header.the-variants.{Good, Refused}
+
+abbrev pub noFields : Fields
+noFields = record { version = 0; length = 0; n = 0 }
 
 -- 0 with version, header length and n; or 10 or 11, and no field
-pub record SaidHeader : Type 0 where
-  pub number : ℕ
-  pub version : ℕ
-  pub length : ℕ
-  pub n : ℕ
-
-abbrev pub goodHeader : ℕ → ℕ → ℕ → SaidHeader
-goodHeader version h n = record { number = 0; version = version; length = h; n = n }
-
-abbrev pub refusedHeader : ℕ → SaidHeader
-refusedHeader k = record { number = k; version = 0; length = 0; n = 0 }
-
-abbrev pub saidHeader : Header → SaidHeader
-saidHeader (Good f) = goodHeader (f .version) (f .length) (f .n)
-saidHeader Short = refusedHeader 10
-saidHeader Wrong = refusedHeader 11
+abbrev pub saidHeader : Header → Answered Fields
+saidHeader (Good f) = accepted f
+saidHeader (Refused r) = refusedWith noFields (whyOf r)
 
 -- what the bytes of a good header say
-abbrev pub fieldsOf : List ℕ → SaidHeader
-fieldsOf xs = goodHeader (field xs 0 4) (field xs 4 12) (field xs 16 5)
+abbrev pub fieldsOf : List ℕ → Fields
+fieldsOf xs = record { version = field xs 0 4; length = field xs 4 12; n = field xs 16 5 }
 
 unfoldable pub headerHolds : ℕ → ℕ → List ℕ → Bool
 headerHolds version h xs =
     eqb (field xs 0 4) version && eqb (field xs 4 12) h && (leb 1 (field xs 16 5) && leb (field xs 16 5) 16)
     && eqb (field xs 21 (h - 21)) 0
 
-unfoldable pub headerOf : List ℕ → SaidHeader
-headerOf xs = cond (ltb (length xs) 4) (refusedHeader 10) (cond (headerHolds 1 32 xs) (fieldsOf xs) (refusedHeader 11))
+abbrev pub badHeader : ℕ → Answered Fields
+badHeader k = refusedWith noFields (why k 0 0)
+
+unfoldable pub headerOf : List ℕ → Answered Fields
+headerOf xs = cond (ltb (length xs) 4) (badHeader 10) (cond (headerHolds 1 32 xs) (accepted (fieldsOf xs)) (badHeader 11))

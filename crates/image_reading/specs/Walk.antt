@@ -8,30 +8,30 @@ use lib.ListN.{length, drop}
 use Rattle.bits.specs.Bits.{number}
 use Rattle.image.specs.Places.{fieldIn, channelsPlace}
 use Rattle.image.specs.Widths.{messageWidth}
-use Rattle.lent.specs.Check.{SaidCheck, checked}
 use Rattle.protocol.specs.Network.{capacity}
 use Rattle.image_reading.specs.declared.Walk.{Walk}
-use Rattle.image_reading.specs.declared.Walk.the-variants.{At, Over, Cut}
+use Rattle.image_reading.specs.declared.Walk.the-variants.{At, Refused}
+use Rattle.refusal.specs.Refusal.{why, whyOf}
+use Rattle.refusal.specs.declared.Refusal.the-variants.{Fault, BadEnd}
+use Rattle.refusal.specs.declared.Why.{Why}
 
 -- 0 where it goes on, 2 with the pair at which it stopped, 12 where it was cut off
-abbrev pub saidWalk : Walk → SaidCheck
-saidWalk (At q) = checked 0 0 0
-saidWalk (Over u v) = checked 2 u v
-saidWalk Cut = checked 12 0 0
+abbrev pub saidWalk : Walk → Why
+saidWalk (At q) = why 0 0 0
+saidWalk (Refused r) = whyOf r
 
 -- channel u to v, which starts at q: a count of 4 bits, then so many messages; none from a node to itself
 unfoldable pub channelStep : ℕ → List ℕ → ℕ → ℕ → ℕ → Walk
 channelStep d l u v q =
     cond (eqb u v) (At q)
-    (cond (ltb (length l) (q + 4)) Cut
-    (cond (ltb capacity (fieldIn l q 4)) (Over u v)
-    (cond (ltb (length l) (q + 4 + fieldIn l q 4 * messageWidth d)) Cut (At (q + 4 + fieldIn l q 4 * messageWidth d)))))
+    (cond (ltb (length l) (q + 4)) (Refused BadEnd)
+    (cond (ltb capacity (fieldIn l q 4)) (Refused (Fault u v))
+    (cond (ltb (length l) (q + 4 + fieldIn l q 4 * messageWidth d)) (Refused BadEnd) (At (q + 4 + fieldIn l q 4 * messageWidth d)))))
 
 -- a walk goes on from a place, and stays where it stopped
 unfoldable pub onward : Walk → (ℕ → Walk) → Walk
 onward (At q) f = f q
-onward (Over u v) f = Over u v
-onward Cut f = Cut
+onward (Refused r) f = Refused r
 
 -- k steps from q
 unfoldable pub steps : (ℕ → ℕ → Walk) → ℕ → ℕ → Walk
@@ -47,7 +47,7 @@ channelsWalk d n l q = steps (channelsFromWalk d n l) n q
 
 -- the nodes' records have one width each; then the channels
 unfoldable pub walk : ℕ → ℕ → ℕ → List ℕ → Walk
-walk h d n l = cond (ltb (length l) (channelsPlace h d n)) Cut (channelsWalk d n l (channelsPlace h d n))
+walk h d n l = cond (ltb (length l) (channelsPlace h d n)) (Refused BadEnd) (channelsWalk d n l (channelsPlace h d n))
 
 -- the image ends in the byte of place q, and all bits from q on are 0
 unfoldable pub endsAt : List ℕ → ℕ → Bool

@@ -6,14 +6,15 @@ ghost use lib.ListN.{length};
 ghost use Rattle.bits.specs.Bits.{unpacked};
 ghost use Rattle.image.specs.Parts.{Depth};
 ghost use Rattle.image.specs.Places.{channelsNext, tablesIn};
-ghost use Rattle.lent.specs.Check.{faultInRow, firstFault};
+ghost use Rattle.lent.specs.Check.{saidCheck, faultInRow, firstFault};
 ghost use Rattle.protocol.specs.Network.{Node};
 ghost use Rattle.image_reading.specs.Cells.{ChannelsIn};
-ghost use Rattle.image_reading.specs.Examine.{Walkable, saidExamined};
+ghost use Rattle.image_reading.specs.Examine.{Walkable};
 ghost use Rattle.image_reading.specs.Search.{rowHolds, Searched};
 ghost use Rattle.tables.specs.Tables.{width, cellWidth};
-use super::Examined;
 use super::Walk;
+use lent::Checked;
+use refusal::Refusal;
 
 // Room for one row of at most 16 nodes, and for one cell.
 fn blank_row() -> [u32; 115]
@@ -28,7 +29,7 @@ fn blank_cell() -> [u32; 65]
     [0; 65]
 }
 
-// The places of row u, whose channels start at a bit place: the place behind them, or `Over` with the first pair at fault.
+// The places of row u, whose channels start at a bit place: the place behind them, or the first pair at fault.
 fn fault_in_row(
     image: &[u8],
     at: usize,
@@ -48,7 +49,7 @@ fn fault_in_row(
     while v < n {
         place = super::filling::read_cell(image, place, depth, u, v + 1, cell);
         if !pairs::pair_sound(n, u, v + 1, row, cell) {
-            return Walk::Over(u, v + 1);
+            return Walk::Refused(Refusal::Fault(u, v + 1));
         }
         v += 1;
     }
@@ -63,10 +64,10 @@ fn first_fault(
     n: u32,
     row: &mut [u32],
     cell: &mut [u32],
-) -> Examined
+) -> Checked
     requires { ⌜ Depth depth × (n ≤ 16) × (h < 4096) × (length (now row) ≡ width n)
         × (length (now cell) ≡ cellWidth) × Walkable h depth n (unpacked (now image)) ⌝ }
-    ensures { λ r. ⌜ saidExamined r ≡ firstFault n (tablesIn h depth n (unpacked (now (image .entry)))) ⌝ }
+    ensures { λ r. ⌜ saidCheck r ≡ firstFault n (tablesIn h depth n (unpacked (now (image .entry)))) ⌝ }
 {
     let k = n as usize;
     let step = 64 + (80 + depth as usize) * k;
@@ -75,19 +76,19 @@ fn first_fault(
     while u < n {
         image::rows::get_row(image, h + u as usize * step, depth, k, row);
         let w = fault_in_row(image, place, depth, n, u + 1, row, cell);
-        let Walk::At(next) = w else {
-            return super::walking::stopped(w);
-        };
-        place = next;
+        match w {
+            Walk::Refused(why) => return Checked::Refused(why),
+            Walk::At(next) => place = next,
+        }
         u += 1;
     }
-    Examined::Sound
+    Checked::Sound
 }
 
 // The first pair at fault, u ascending, then v ascending.
-pub fn contents(image: &[u8], h: usize, depth: u8, n: u32) -> Examined
+pub fn contents(image: &[u8], h: usize, depth: u8, n: u32) -> Checked
     requires { ⌜ Depth depth × (n ≤ 16) × (h < 4096) × Walkable h depth n (unpacked (now image)) ⌝ }
-    ensures { λ r. ⌜ saidExamined r ≡ firstFault n (tablesIn h depth n (unpacked (now (image .entry)))) ⌝ }
+    ensures { λ r. ⌜ saidCheck r ≡ firstFault n (tablesIn h depth n (unpacked (now (image .entry)))) ⌝ }
 {
     let mut row = blank_row();
     let mut cell = blank_cell();

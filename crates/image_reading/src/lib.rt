@@ -4,9 +4,12 @@ ghost use mathlib.Core.Path.{_≡_};
 ghost use Prim.Native.Nat.{_≤_};
 ghost use Rattle.bits.specs.Bits.{unpacked};
 ghost use Rattle.image.specs.Places.{tablesIn};
-ghost use Rattle.image_reading.specs.Examine.{Walkable, saidExamined, examined};
+ghost use Rattle.lent.specs.Check.{saidCheck};
+ghost use Rattle.image_reading.specs.Examine.{Walkable, examined};
 ghost use Rattle.image_reading.specs.Header.{saidHeader, headerOf};
 ghost use Rattle.tables.specs.Tables.{given, atExit, Sized};
+use lent::Checked;
+use refusal::Refusal;
 
 mod contents;
 mod filling;
@@ -22,22 +25,13 @@ pub struct Fields {
 // A header taken apart, or what refuses it: under 4 bytes (10), or a field that may not be so (11).
 pub enum Header {
     Good(Fields),
-    Short,
-    Wrong,
+    Refused(Refusal),
 }
 
-// Where a walk is, or why it stopped: at a pair (a count above 8, or contents that break a rule), or at the end of the image.
+// Where a walk is, or why it stopped: at a pair (a count above 8, or contents that break a rule, 2), or at the end of the image (12).
 pub enum Walk {
     At(usize),
-    Over(u32, u32),
-    Cut,
-}
-
-// What the checks behind the header say: nothing at fault (0), the pair at fault (2), or a wrong end (12).
-pub enum Examined {
-    Sound,
-    Fault(u32, u32),
-    BadEnd,
+    Refused(Refusal),
 }
 
 // The header, for any bytes whatever.
@@ -45,7 +39,7 @@ pub fn decode(image: &[u8]) -> Header
     ensures { λ r. ⌜ saidHeader r ≡ headerOf (now (image .entry)) ⌝ }
 {
     if image.len() < 4 {
-        return Header::Short;
+        return Header::Refused(Refusal::TooShort);
     }
     let version = bits::get(image, 0, 4);
     let length = bits::get(image, 4, 12);
@@ -54,22 +48,23 @@ pub fn decode(image: &[u8]) -> Header
     if (version == 1) & (length == 32) & ((1 <= n) & (n <= 16)) & (spare == 0) {
         return Header::Good(Fields { version, length, n });
     }
-    Header::Wrong
+    Header::Refused(Refusal::BadHeader)
 }
 
 // All checks behind a header of 32 bits.
-pub fn examine(image: &[u8], n: u32) -> Examined
+pub fn examine(image: &[u8], n: u32) -> Checked
     requires { ⌜ (1 ≤ n) × (n ≤ 16) ⌝ }
-    ensures { λ r. ⌜ saidExamined r ≡ examined 32 16 n (unpacked (now (image .entry))) ⌝ }
+    ensures { λ r. ⌜ saidCheck r ≡ examined 32 16 n (unpacked (now (image .entry))) ⌝ }
 {
-    let w = walking::whole(image, 32, 16, n);
-    let Walk::At(end) = w else {
-        return walking::stopped(w);
-    };
-    if !walking::ends_at(image, end) {
-        return Examined::BadEnd;
+    match walking::whole(image, 32, 16, n) {
+        Walk::Refused(why) => Checked::Refused(why),
+        Walk::At(end) => {
+            if !walking::ends_at(image, end) {
+                return Checked::Refused(Refusal::BadEnd);
+            }
+            contents::contents(image, 32, 16, n)
+        }
     }
-    contents::contents(image, 32, 16, n)
 }
 
 // The tables of an image's records.

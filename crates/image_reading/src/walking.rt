@@ -5,10 +5,9 @@ ghost use Prim.Native.Nat.{_+_, _*_, _^_, _≤_, _<_};
 ghost use lib.ListN.{length};
 ghost use Rattle.bits.specs.Bits.{unpacked};
 ghost use Rattle.image.specs.Parts.{Depth};
-ghost use Rattle.image_reading.specs.Examine.{saidExamined};
-ghost use Rattle.image_reading.specs.Walk.{saidWalk, channelStep, channelsFromWalk, channelsWalk, walk, endsAt};
-use super::Examined;
+ghost use Rattle.image_reading.specs.Walk.{channelStep, channelsFromWalk, channelsWalk, walk, endsAt};
 use super::Walk;
+use refusal::Refusal;
 
 // Channel u to v, which starts at a bit place.
 fn walk_channel(bytes: &[u8], depth: u8, u: u32, v: u32, at: usize) -> Walk
@@ -19,15 +18,15 @@ fn walk_channel(bytes: &[u8], depth: u8, u: u32, v: u32, at: usize) -> Walk
         return Walk::At(at);
     }
     if (at + 11) / 8 > bytes.len() {
-        return Walk::Cut;
+        return Walk::Refused(Refusal::BadEnd);
     }
     let c = bits::get(bytes, at, 4) as usize;
     if c > 8 {
-        return Walk::Over(u, v);
+        return Walk::Refused(Refusal::Fault(u, v));
     }
     let next = at + 4 + c * (112 + depth as usize);
     if (next + 7) / 8 > bytes.len() {
-        return Walk::Cut;
+        return Walk::Refused(Refusal::BadEnd);
     }
     Walk::At(next)
 }
@@ -76,7 +75,7 @@ pub fn whole(bytes: &[u8], h: usize, depth: u8, n: u32) -> Walk
     let k = n as usize;
     let start = h + k * (64 + (80 + depth as usize) * k);
     if (start + 7) / 8 > bytes.len() {
-        return Walk::Cut;
+        return Walk::Refused(Refusal::BadEnd);
     }
     walk_channels(bytes, depth, n, start)
 }
@@ -90,15 +89,4 @@ pub fn ends_at(bytes: &[u8], at: usize) -> bool
         return false;
     }
     bits::get(bytes, at, (8 - at % 8) % 8) == 0
-}
-
-// What a walk says, as an answer.
-pub fn stopped(w: Walk) -> Examined
-    ensures { λ r. ⌜ saidExamined r ≡ saidWalk w ⌝ }
-{
-    match w {
-        Walk::At(_) => Examined::Sound,
-        Walk::Over(u, v) => Examined::Fault(u, v),
-        Walk::Cut => Examined::BadEnd,
-    }
 }

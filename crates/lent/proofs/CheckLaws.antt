@@ -1,4 +1,4 @@
--- What a check's answer tells: the sizes, and where it is 0 that every pairAt holds.
+-- What a check's answer tells: the sizes, and where it is 0 that every pair holds.
 -- Assumes nothing.
 use Prim.Native.Nat.{ℕ, zero, suc, _+_, _*_, _≤_, _<_}
 use native.Mathlib.Omega.{arith}
@@ -45,7 +45,7 @@ module _ (n : ℕ) (t : Tables) where
   unfolding checkOn
   check-places e = rw e
 
--- ---- no fault: every pairAt holds
+-- ---- no fault: every pair holds
 
 two-not-zero : {X : Type 0} → _≡_ {A = ℕ} 2 0 → X
 two-not-zero e = absurd (omega arith)

@@ -19,7 +19,7 @@ pub record Rows (s : ℕ → ℕ → Bool) (n : ℕ) (found : Checked) (u : ℕ)
   pub none : found ≡ Sound
   pub same : faultFrom s n 1 n ≡ faultFrom s n u (n + 1 - u)
 
--- at the inner head, with pairAt v of row u next
+-- at the inner head, with pair v of row u next
 pub record Row (s : ℕ → ℕ → Bool) (n u : ℕ) (found : Checked) (v : ℕ) : Type 0 where
   pub low : 1 ≤ v
   pub high : v ≤ n + 1

@@ -1,5 +1,5 @@
 -- Refusals 1 and 2: the sizes of the tables, then the first pair at which their words break a rule of "What a station holds".
--- The test of one pairAt is `placeIn` of the crate `places`.
+-- The test of one pair is `placeIn` of the crate `places`.
 use Prim.Native.Nat.{ℕ, zero, suc}
 use mathlib.Core.Bool.{Bool, cond}
 use lib.Dec.{eqb}

@@ -12,36 +12,39 @@ use Rattle.image_reading.proofs.examine.Tie as tie
 whole-requires : tie.Need-whole-requires
 whole-requires c κs = search needs
 
-enum-known-w : tie.Need-enum-known-w
-enum-known-w c = search needs
+enum-known-why : tie.Need-enum-known-why
+enum-known-why c = search needs
 
-stopped-requires : tie.Need-stopped-requires
-stopped-requires c κs = search needs
-
-returns : tie.Need-returns
-returns c = examined-stops 32 16 _ _ (c .before .before .whole .ensures) (c .stopped .ensures) (c .before .match .keys2)
+enum-known-end : tie.Need-enum-known-end
+enum-known-end c = search needs
 
 ends-at-requires : tie.Need-ends-at-requires
 ends-at-requires c κs =
-    let s = c .before .before .before .before .before in
-    let end = accepted-end 32 16 _ _ (c .before .before .before .whole .ensures) (c .before .w .given .1) (omega arith) (omega arith) (s .pre .1) in
+    let w = c .before .before .before in
+    let s = w .before .before in
+    let end = accepted-end 32 16 _ _ (w .whole .ensures) (c .before .end .given .1) (omega arith) (omega arith) (s .pre .1) in
     (omega arith, omega (arith, length-unpacked (s .args .image .now)))
 
-returns-2 : tie.Need-returns-2
-returns-2 c =
-    examined-bad-end 32 16 _ _ (c .before .before .before .before .before .whole .ensures) (c .before .before .before .w .given .1)
-    (sym (c .before .ends-at .ensures) ∙ not-true _ (c .if1 .taken))
+returns : tie.Need-returns
+returns c =
+    let e = c .before .before .before in
+    examined-bad-end 32 16 _ _ (e .before .before .whole .ensures) (e .end .given .1) (sym (c .before .ends-at .ensures) ∙ not-true _ (c .if1 .taken))
 
 contents-requires : tie.Need-contents-requires
 contents-requires c κs =
-    let t = c .before .before .before in
-    let few = t .before .before .before .before .pre .1 in
-    let walk = accepted-walk 32 16 _ _ (t .before .before .whole .ensures) (t .w .given .1) (omega arith) (omega arith) few in
+    let e = c .before .before .before in
+    let w = e .before .before in
+    let few = w .before .before .pre .1 in
+    let walk = accepted-walk 32 16 _ _ (w .whole .ensures) (e .end .given .1) (omega arith) (omega arith) few in
     (record { low = omega arith; high = omega arith }, few, omega arith, walk)
+
+returns-2 : tie.Need-returns-2
+returns-2 c = examined-stops 32 16 _ _ (c .before .before .before .whole .ensures) (c .before .why .given .1)
 
 returns-3 : tie.Need-returns-3
 returns-3 c =
-    examined-contents 32 16 _ _ (c .before .before .before .before .before .before .whole .ensures) (c .before .before .before .before .w .given .1)
+    let e = c .before .before .before .before in
+    examined-contents 32 16 _ _ (e .before .before .whole .ensures) (e .end .given .1)
     (sym (c .before .before .ends-at .ensures) ∙ not-false _ (c .before .if1 .left)) (c .contents .ensures)
 
 pub examine-spec : {M : Type 1} → statement M
@@ -49,10 +52,10 @@ examine-spec =
     tie.close
     (tie.spec
     whole-requires
-    enum-known-w
-    stopped-requires
-    returns
+    enum-known-why
+    enum-known-end
     ends-at-requires
-    returns-2
+    returns
     contents-requires
+    returns-2
     returns-3)

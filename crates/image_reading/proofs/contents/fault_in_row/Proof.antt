@@ -32,11 +32,11 @@ read-cell-requires c κs =
     let l = c .before .before .loop in
     (s .pre .0, l .inv .2, channel-of (l .inv .1) (s .pre .5) (c .before .loop-test .taken))
 
-add-place-in : tie.Need-add-place-in Inv-loop μ-loop
-add-place-in c = omega arith
+add-pair-sound : tie.Need-add-pair-sound Inv-loop μ-loop
+add-pair-sound c = omega arith
 
-place-in-requires : tie.Need-place-in-requires Inv-loop μ-loop
-place-in-requires c κs =
+pair-sound-requires : tie.Need-pair-sound-requires Inv-loop μ-loop
+pair-sound-requires c κs =
     let s = c .before .before .before .before .before .before .before .before .before .before in
     let t = c .before .before .before in
     let wide = t .read-cell .kept .1 .1 .1 .1 .1 .0 ∙ t .before .before .before .loop .inv .2 in
@@ -53,7 +53,7 @@ same-length c =
 returns : tie.Need-returns Inv-loop μ-loop
 returns c =
     let l = c .before .before .before .before .before .before .before .before .loop in
-    let test = place-read (l .inv .1) _ _ (c .before .before .before .before .before .read-cell .ensures .0) (c .before .place-in .ensures) in
+    let test = place-read (l .inv .1) _ _ (c .before .before .before .before .before .read-cell .ensures .0) (c .before .pair-sound .ensures) in
     held-fault (l .inv .0) (c .before .before .before .before .before .before .before .loop-test .taken) (test ∙ not-true _ (c .if1 .taken))
 
 add-v : tie.Need-add-v Inv-loop μ-loop
@@ -66,7 +66,7 @@ loop-again : tie.Need-loop-again Inv-loop μ-loop
 loop-again c =
     let l = c .before .before .before .before .before .before .before .before .loop in
     let r = c .before .before .before .before .before .read-cell in
-    let test = place-read (l .inv .1) _ _ (r .ensures .0) (c .before .place-in .ensures) in (
+    let test = place-read (l .inv .1) _ _ (r .ensures .0) (c .before .pair-sound .ensures) in (
       held-next (l .inv .0) (c .before .before .before .before .before .before .before .loop-test .taken) (test ∙ not-false _ (c .if1 .left)),
       channel-next (l .inv .1) (r .ensures .1),
       r .kept .1 .1 .1 .1 .1 .0 ∙ l .inv .2,
@@ -89,8 +89,8 @@ fault-in-row-spec =
     loop-holds
     add-read-cell
     read-cell-requires
-    add-place-in
-    place-in-requires
+    add-pair-sound
+    pair-sound-requires
     add-t17
     same-length
     returns

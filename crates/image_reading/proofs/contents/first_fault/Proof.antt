@@ -1,4 +1,4 @@
--- `image_reading::contents::first_fault` meets its contract. The invariant: the places of the first u rows hold, and the pairAt is behind their channels.
+-- `image_reading::contents::first_fault` meets its contract. The invariant: the places of the first u rows hold, and the place is behind their channels.
 -- The measure is how many rows are left. Assumes nothing.
 use Prim.Native.Nat.{_-_}
 use native.Mathlib.Omega.{arith}
@@ -8,7 +8,7 @@ use lib.ListN.{length}
 use Rattle.bits.specs.Bits.{unpacked}
 use Rattle.image.specs.Places.{channelsPlace, tablesIn}
 use Rattle.image.specs.Widths.{heightWidth, nodeWidth}
-use Rattle.lent.specs.Check.{pairAt as placeOf, firstFault}
+use Rattle.lent.specs.Check.{pairAt, firstFault}
 use Rattle.tables.specs.Tables.{width, cellWidth}
 use Rattle.image.proofs.Bounds.{heights-small, nodes-small}
 use Rattle.image_reading.proofs.ReadLaws.{node-inside, ChannelsAt, channels-start, channels-next, channels-of}
@@ -17,12 +17,12 @@ use Rattle.image_reading.proofs.contents.first_fault.Statement.{stateme
 use Rattle.image_reading.proofs.contents.first_fault.Tie as tie
 
 abbrev Inv-loop : tie.InvT-loop
-Inv-loop image h depth n row₀ cell₀ k step place₀ u₀ row cell pairAt u =
-    RowsHeld (placeOf n (tablesIn h depth n (unpacked image))) n u
-    × ChannelsAt h depth n (unpacked image) u pairAt × (length row ≡ width n) × (length cell ≡ cellWidth)
+Inv-loop image h depth n row₀ cell₀ k step place₀ u₀ row cell place u =
+    RowsHeld (pairAt n (tablesIn h depth n (unpacked image))) n u
+    × ChannelsAt h depth n (unpacked image) u place × (length row ≡ width n) × (length cell ≡ cellWidth)
 
 abbrev μ-loop : tie.MeasureT-loop
-μ-loop image h depth n row₀ cell₀ k step place₀ u₀ row cell pairAt u = n - u
+μ-loop image h depth n row₀ cell₀ k step place₀ u₀ row cell place u = n - u
 
 add-step : tie.Need-add-step Inv-loop μ-loop
 add-step c = omega arith
@@ -79,29 +79,29 @@ fault-in-row-requires c κs =
 enum-known-w : tie.Need-enum-known-w Inv-loop μ-loop
 enum-known-w c = search needs
 
-stopped-requires : tie.Need-stopped-requires Inv-loop μ-loop
-stopped-requires c κs = search needs
-
 same-length : tie.Need-same-length Inv-loop μ-loop
 same-length c =
-    let t = c .before .before .before .before .before .before .before .before .before in
+    let t = c .before .before .before .before .before .before .before .before .before .before in
     t .get-row .kept .1 .1 .1 .1 .0 ∙ (t .before .before .before .loop .inv .2 ∙ sym (t .before .before .before .before .before .before .before .pre .3))
 
 same-length-2 : tie.Need-same-length-2 Inv-loop μ-loop
 same-length-2 c =
-    let t = c .before .before .before .before .before .before .before .before .before in
-    c .before .before .before .before .fault-in-row .kept .1 .1 .1 .1 .1 .1 .0
+    let t = c .before .before .before .before .before .before .before .before .before .before in
+    c .before .before .before .before .before .fault-in-row .kept .1 .1 .1 .1 .1 .1 .0
     ∙ (t .before .before .before .loop .inv .3 ∙ sym (t .before .before .before .before .before .before .before .pre .4))
 
 returns : tie.Need-returns Inv-loop μ-loop
 unfolding firstFault nodeWidth heightWidth
 returns c =
-    let t = c .before .before .before .before .before .before .before .before .before in
+    let t = c .before .before .before .before .before .before .before .before .before .before in
     let l = t .before .before .before .loop in
     let more = t .before .before .loop-test .taken in
-    let w = c .before .before .before .before .fault-in-row in
+    let w = c .before .before .before .before .before .fault-in-row in
     let said = row-searched (l .inv .1) (t .before .before .before .before .before .before .before .pre .5) more (t .get-row .ensures) (w .ensures .said) in
-    c .stopped .ensures ∙ rows-held-fault (l .inv .0) more (w .result) said (c .before .match .keys2)
+    rows-held-fault (l .inv .0) more (w .result) said (c .before .w .given .1)
+
+enum-known-w-2 : tie.Need-enum-known-w-2 Inv-loop μ-loop
+enum-known-w-2 c = search needs
 
 add-u : tie.Need-add-u Inv-loop μ-loop
 add-u c = omega arith
@@ -116,7 +116,7 @@ loop-again c =
     let l = t .before .before .before .loop in
     let more = t .before .before .loop-test .taken in
     let w = c .before .before .before .before .before .fault-in-row in
-    let on = c .before .w .given .1 in
+    let on = c .before .w2 .given .1 in
     let said = row-searched (l .inv .1) (t .before .before .before .before .before .before .before .pre .5) more (t .get-row .ensures) (w .ensures .said) in (
       rows-held-next (l .inv .0) more _ said on,
       channels-next (l .inv .1) (w .ensures .ends _ on),
@@ -153,10 +153,10 @@ first-fault-spec =
     add-fault-in-row
     fault-in-row-requires
     enum-known-w
-    stopped-requires
     same-length
     same-length-2
     returns
+    enum-known-w-2
     add-u
     loop-less
     loop-again

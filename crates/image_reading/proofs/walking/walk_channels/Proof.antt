@@ -28,12 +28,15 @@ walk-channels-from-requires c κs = search needs
 enum-known-w : tie.Need-enum-known-w Inv-loop μ-loop
 enum-known-w c = search needs
 
+enum-told : tie.Need-enum-told Inv-loop μ-loop
+enum-told c = search needs
+
 returns : tie.Need-returns Inv-loop μ-loop
 unfolding channelsWalk
 returns c =
-    let g = c .before in
+    let g = c .before .before in
     let l = g .before .before .loop in
-    walk-stops _ _ _ _ (l .u) (l .place) (l .inv) (g .walk-channels-from .result) (g .walk-channels-from .ensures) (omega arith) (c .match .keys2)
+    walk-stops _ _ _ _ (l .u) (l .place) (l .inv) (g .walk-channels-from .result) (g .walk-channels-from .ensures) (omega arith) (c .before .match .keys2)
 
 add-u : tie.Need-add-u Inv-loop μ-loop
 add-u c = search needs
@@ -64,6 +67,7 @@ walk-channels-spec =
     add-walk-channels-from
     walk-channels-from-requires
     enum-known-w
+    enum-told
     returns
     add-u
     loop-less

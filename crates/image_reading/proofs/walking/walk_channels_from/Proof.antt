@@ -27,12 +27,15 @@ walk-channel-requires c κs = search needs
 enum-known-w : tie.Need-enum-known-w Inv-loop μ-loop
 enum-known-w c = search needs
 
+enum-told : tie.Need-enum-told Inv-loop μ-loop
+enum-told c = search needs
+
 returns : tie.Need-returns Inv-loop μ-loop
 unfolding channelsFromWalk
 returns c =
-    let g = c .before in
+    let g = c .before .before in
     let l = g .before .before .loop in
-    walk-stops _ _ _ _ (l .v) (l .place) (l .inv) (g .walk-channel .result) (g .walk-channel .ensures) (omega arith) (c .match .keys2)
+    walk-stops _ _ _ _ (l .v) (l .place) (l .inv) (g .walk-channel .result) (g .walk-channel .ensures) (omega arith) (c .before .match .keys2)
 
 add-v : tie.Need-add-v Inv-loop μ-loop
 add-v c = search needs
@@ -63,6 +66,7 @@ walk-channels-from-spec =
     add-walk-channel
     walk-channel-requires
     enum-known-w
+    enum-told
     returns
     add-v
     loop-less
