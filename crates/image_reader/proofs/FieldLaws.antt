@@ -14,9 +14,10 @@ use Rattle.bits.specs.Bits.{number, unpacked, field}
 use Rattle.bits.proofs.Bytes.{unpacked-drop}
 use Rattle.basics.proofs.Tests.{Choice, yes!, no!, choice, and-left, and-right, neither-left, neither-right}
 use Rattle.tables.proofs.RowsLaws.{rest-is}
-use Rattle.image_reader.specs.Fields.{standsIn, saidField, saidTaken, saidSkipped, placed, takeOn, skipOn, read, movedTo, takeFrom, skipFrom}
+use Rattle.refusal.specs.Outcome.{accepted, outcome, refusedWith}
+use Rattle.refusal.specs.Refusal.{why}
+use Rattle.image_reader.specs.Fields.{standsIn, saidTaken, takeOn, movedTo, takeFrom}
 use Rattle.image_reader.specs.declared.Reader.{Reader}
-use Rattle.image_reader.specs.declared.Skipped.{Skipped}
 use Rattle.image_reader.specs.declared.Taken.{Taken}
 
 -- ---- bits inside the bytes
@@ -64,33 +65,20 @@ module _ (xs : List ℕ) (at w : ℕ) {r : Bool} (answers : r ≡ standsIn xs at
   pub fits : not r ≡ false → (at + w < 2 ^ 64) × (at + w ≤ 8 * length xs)
   fits e = within-is xs at w (sym answers ∙ not-false r e)
 
-  pub take-refused : (ltb 32 w || not r) ≡ true → placed (saidField 12 0) at ≡ takeOn xs at w
+  pub take-refused : (ltb 32 w || not r) ≡ true → outcome (refusedWith 0 (why 12 0 0)) at ≡ takeOn xs at w
   unfolding takeOn
   take-refused e = rw (← answers, e)
 
-  pub take-taken : (v : ℕ) → v ≡ field xs at w → (ltb 32 w || not r) ≡ false → placed (saidField 0 v) (at + w) ≡ takeOn xs at w
+  pub take-taken : (v : ℕ) → v ≡ field xs at w → (ltb 32 w || not r) ≡ false → outcome (accepted v) (at + w) ≡ takeOn xs at w
   unfolding takeOn
   take-taken v h e = rw (← answers, e, h)
 
   pub take-fits : (ltb 32 w || not r) ≡ false → (w ≤ 32) × ((at + w < 2 ^ 64) × (at + w ≤ 8 * length xs))
   take-fits e = (ltb-false 32 w (neither-left (ltb 32 w) (not r) e), fits (neither-right (ltb 32 w) (not r) e))
 
-  pub skip-refused : not r ≡ true → placed (saidField 12 0) at ≡ skipOn xs at w
-  unfolding skipOn
-  skip-refused e = rw (← answers, e)
-
-  pub skip-done : not r ≡ false → placed (saidField 0 0) (at + w) ≡ skipOn xs at w
-  unfolding skipOn
-  skip-done e = rw (← answers, e)
-
 -- ---- on a reader, by what is said on its bytes and its place
 
-pub took : (h : Reader) (w : ℕ) (t : Taken) (next : ℕ) → placed (saidTaken t) next ≡ takeOn (now (h .image)) (h .at) w
-    → read (saidTaken t) (record { image = h .image; at = next }) ≡ takeFrom h w
+pub took : (h : Reader) (w : ℕ) (t : Taken) (next : ℕ) → outcome (saidTaken t) next ≡ takeOn (now (h .image)) (h .at) w
+    → outcome (saidTaken t) (record { image = h .image; at = next }) ≡ takeFrom h w
 unfolding takeFrom
 took h w t next e = ap (movedTo h) e
-
-pub skipped : (h : Reader) (w : ℕ) (s : Skipped) (next : ℕ) → placed (saidSkipped s) next ≡ skipOn (now (h .image)) (h .at) w
-    → read (saidSkipped s) (record { image = h .image; at = next }) ≡ skipFrom h w
-unfolding skipFrom
-skipped h w s next e = ap (movedTo h) e

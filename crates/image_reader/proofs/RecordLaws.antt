@@ -16,8 +16,11 @@ use Rattle.image.proofs.PartCalls.{rest-length}
 use Rattle.basics.proofs.Tests.{neither-left, neither-right}
 use Rattle.tables.proofs.RowsLaws.{rest-is}
 use Rattle.tables.proofs.RowsMore.{rows-same}
+use Rattle.refusal.specs.Outcome.{Answered, Outcome, accepted, outcome}
+use Rattle.refusal.specs.Refusal.{why}
+use Rattle.image_reader.specs.declared.NodeRecord.{NodeRecord}
 use Rattle.image_reader.specs.Fields.{standsIn}
-use Rattle.image_reader.specs.Record.{NodeRow, saidRecord, nodeRow, recordIn, nodeInside, nodeOn}
+use Rattle.image_reader.specs.Record.{unread, recordIn, nodeInside, nodeOn}
 use Rattle.image_reader.proofs.FieldLaws.{from-byte, fits}
 
 -- the first 64 bits of a record that stands inside the bytes
@@ -44,7 +47,8 @@ module _ (xs : List ℕ) (k p at : ℕ) (e : 8 * k + p ≡ at) where
 
   record-from : (n : ℕ) → recordIn n (unpacked (drop k xs)) p ≡ recordIn n (unpacked xs) at
   unfolding recordIn
-  record-from n = λ i. nodeRow (saidRecord 0 (clock-from i) (field-from 32 16 i) (field-from 48 16 i)) (heights-from n i)
+  record-from n = λ i.
+      outcome (accepted (record { clock = record { 0 = clock-from i }; neighbors = field-from 32 16 i; forming = field-from 48 16 i })) (heights-from n i)
 
 -- the record stands inside what is left from its first byte on
 pub rest-inside : (n : ℕ) (xs : List ℕ) (at : ℕ) → n ≤ 16 → at + nodeWidth 16 n ≤ 8 * length xs
@@ -52,7 +56,7 @@ pub rest-inside : (n : ℕ) (xs : List ℕ) (at : ℕ) → n ≤ 16 → at + nod
 unfolding nodeWidth heightWidth
 rest-inside n xs at few h = record { small = omega (arith, few); inside = omega (arith, h, rest-length (at / 8) xs) }
 
-pub rest-read : (n : ℕ) (xs : List ℕ) (at : ℕ) {s : NodeRow} → s ≡ recordIn n (unpacked (take (length xs - at / 8) (drop (at / 8) xs))) (at % 8)
+pub rest-read : (n : ℕ) (xs : List ℕ) (at : ℕ) {s : Outcome (Answered NodeRecord) (List ℕ)} → s ≡ recordIn n (unpacked (take (length xs - at / 8) (drop (at / 8) xs))) (at % 8)
     → s ≡ recordIn n (unpacked xs) at
 rest-read n xs at h =
     let a : 8 * (at / 8) + at % 8 ≡ at = omega arith in
@@ -68,14 +72,14 @@ module _ (n : ℕ) (xs : List ℕ) (at : ℕ) (row : List ℕ) {r : Bool} (answe
   inside-is : {b : Bool} → not r ≡ b → not (standsIn xs at (nodeWidth 16 n)) ≡ b
   inside-is e = rw (← width-is n, ← answers) e
 
-  pub node-short : not r ≡ true → nodeRow (saidRecord 12 0 0 0) row ≡ nodeInside n xs at row
+  pub node-short : not r ≡ true → unread (why 12 0 0) row ≡ nodeInside n xs at row
   unfolding nodeInside
   node-short e = rw (inside-is e)
 
   pub node-inside : not r ≡ false → at + nodeWidth 16 n ≤ 8 * length xs
   node-inside e = rw (← width-is n) (fits xs at (64 + 96 * n) answers e .1)
 
-  pub node-read : {s : NodeRow} → not r ≡ false → s ≡ recordIn n (unpacked xs) at → s ≡ nodeInside n xs at row
+  pub node-read : {s : Outcome (Answered NodeRecord) (List ℕ)} → not r ≡ false → s ≡ recordIn n (unpacked xs) at → s ≡ nodeInside n xs at row
   unfolding nodeInside
   node-read e h = rw (inside-is e) h
 
@@ -88,10 +92,10 @@ sizes-are n row e = (
 )
 
 module _ (n : ℕ) (xs : List ℕ) (at : ℕ) (row : List ℕ) where
-  pub node-sizes : ((ltb n 1 || ltb 16 n) || not (eqb (length row) (n * 7))) ≡ true → nodeRow (saidRecord 1 0 0 0) row ≡ nodeOn n xs at row
+  pub node-sizes : ((ltb n 1 || ltb 16 n) || not (eqb (length row) (n * 7))) ≡ true → unread (why 1 0 0) row ≡ nodeOn n xs at row
   unfolding nodeOn
   node-sizes e = rw e
 
-  pub node-sized : {s : NodeRow} → ((ltb n 1 || ltb 16 n) || not (eqb (length row) (n * 7))) ≡ false → s ≡ nodeInside n xs at row → s ≡ nodeOn n xs at row
+  pub node-sized : {s : Outcome (Answered NodeRecord) (List ℕ)} → ((ltb n 1 || ltb 16 n) || not (eqb (length row) (n * 7))) ≡ false → s ≡ nodeInside n xs at row → s ≡ nodeOn n xs at row
   unfolding nodeOn
   node-sized e h = rw e h

@@ -1,21 +1,17 @@
-// Fields at a bit place of an image's bytes, of any length: the work of `take` and `skip`.
+// Fields at a bit place of an image's bytes, of any length: the work of `take`.
 // Every function but `field_at` takes anything.
 ghost use mathlib.Core.Path.{_≡_};
 ghost use Prim.Native.Nat.{_+_, _*_, _≤_};
 ghost use lib.ListN.{length};
 ghost use Rattle.bits.specs.Bits.{field};
-ghost use Rattle.image_reader.specs.Fields.{standsIn, saidTaken, saidSkipped, placed, takeOn, skipOn};
-use super::Skipped;
+ghost use Rattle.refusal.specs.Outcome.{outcome};
+ghost use Rattle.image_reader.specs.Fields.{standsIn, saidTaken, takeOn};
 use super::Taken;
+use refusal::Refusal;
 
 // What was taken, and the place afterwards.
 pub struct TakeStep {
     pub taken: Taken,
-    pub next: usize,
-}
-
-pub struct SkipStep {
-    pub skipped: Skipped,
     pub next: usize,
 }
 
@@ -41,35 +37,19 @@ fn field_at(image: &[u8], at: usize, width: usize) -> u32
 
 // The field at a bit place, and the place behind it.
 pub fn take_at(image: &[u8], at: usize, width: usize) -> TakeStep
-    ensures { λ r. ⌜ placed (saidTaken (r .taken)) (r .next) ≡ takeOn (now (image .entry)) at width ⌝ }
+    ensures { λ r. ⌜ outcome (saidTaken (r .taken)) (r .next) ≡ takeOn (now (image .entry)) at width ⌝ }
 {
     let fits = inside(image, at, width);
     if (32 < width) | !fits {
         return TakeStep {
-            taken: Taken::End,
+            taken: Taken::Refused(Refusal::BadEnd),
             next: at,
         };
     }
     let v = field_at(image, at, width);
+    let next = at + width;
     TakeStep {
         taken: Taken::Field(v),
-        next: at + width,
-    }
-}
-
-// The place behind the next bits.
-pub fn skip_at(image: &[u8], at: usize, width: usize) -> SkipStep
-    ensures { λ r. ⌜ placed (saidSkipped (r .skipped)) (r .next) ≡ skipOn (now (image .entry)) at width ⌝ }
-{
-    let fits = inside(image, at, width);
-    if !fits {
-        return SkipStep {
-            skipped: Skipped::Beyond,
-            next: at,
-        };
-    }
-    SkipStep {
-        skipped: Skipped::Past,
-        next: at + width,
+        next,
     }
 }

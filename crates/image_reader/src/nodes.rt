@@ -6,17 +6,19 @@ ghost use lib.ListN.{length};
 ghost use Rattle.bits.specs.Bits.{unpacked};
 ghost use Rattle.image.specs.Parts.{Inside};
 ghost use Rattle.image.specs.Widths.{nodeWidth};
-ghost use Rattle.image_reader.specs.Record.{saidNode, nodeRow, recordIn, nodeInside, nodeOn};
-ghost use Rattle.image_reader.specs.declared.NodeTaken.the-variants.{Found};
+ghost use Rattle.refusal.specs.Outcome.{outcome};
+ghost use Rattle.image_reader.specs.Record.{saidNode, recordIn, nodeInside, nodeOn};
+ghost use Rattle.image_reader.specs.declared.NodeRead.the-variants.{Found};
 use super::NodeRecord;
-use super::NodeTaken;
+use super::NodeRead;
 use super::fields;
 use height::Time;
+use refusal::Refusal;
 
 // The record at a bit place: the heights go into the row.
 fn record_at(image: &[u8], at: usize, n: u32, row: &mut [u32]) -> NodeRecord
     requires { ⌜ (n ≤ 16) × (length (now row) ≡ n * 7) × Inside (now image) at (nodeWidth 16 n) ⌝ }
-    ensures { λ r. ⌜ nodeRow (saidNode (Found r)) (now (row .exit)) ≡ recordIn n (unpacked (now (image .entry))) at ⌝ }
+    ensures { λ r. ⌜ outcome (saidNode (Found r)) (now (row .exit)) ≡ recordIn n (unpacked (now (image .entry))) at ⌝ }
 {
     image::rows::get_heights(image, at, 16, n as usize, row);
     let clock = Time(bits::get(image, at, 32));
@@ -32,32 +34,32 @@ fn record_at(image: &[u8], at: usize, n: u32, row: &mut [u32]) -> NodeRecord
 // The same at any place: the record is read from the byte on in which it starts.
 fn record_from(image: &[u8], at: usize, n: u32, row: &mut [u32]) -> NodeRecord
     requires { ⌜ (n ≤ 16) × (length (now row) ≡ n * 7) × (at + nodeWidth 16 n ≤ 8 * length (now image)) ⌝ }
-    ensures { λ r. ⌜ nodeRow (saidNode (Found r)) (now (row .exit)) ≡ recordIn n (unpacked (now (image .entry))) at ⌝ }
+    ensures { λ r. ⌜ outcome (saidNode (Found r)) (now (row .exit)) ≡ recordIn n (unpacked (now (image .entry))) at ⌝ }
 {
     let first = at / 8;
     record_at(&image[first..], at % 8, n, row)
 }
 
 // 12, or the record.
-fn inside_at(image: &[u8], at: usize, n: u32, row: &mut [u32]) -> NodeTaken
+fn inside_at(image: &[u8], at: usize, n: u32, row: &mut [u32]) -> NodeRead
     requires { ⌜ (n ≤ 16) × (length (now row) ≡ n * 7) ⌝ }
-    ensures { λ r. ⌜ nodeRow (saidNode r) (now (row .exit)) ≡ nodeInside n (now (image .entry)) at (now (row .entry)) ⌝ }
+    ensures { λ r. ⌜ outcome (saidNode r) (now (row .exit)) ≡ nodeInside n (now (image .entry)) at (now (row .entry)) ⌝ }
 {
     let fits = fields::inside(image, at, 64 + 96 * (n as usize));
     if !fits {
-        return NodeTaken::Short;
+        return NodeRead::Refused(Refusal::BadEnd);
     }
     let record = record_from(image, at, n, row);
-    NodeTaken::Found(record)
+    NodeRead::Found(record)
 }
 
 // 1, 12, or the record.
-pub fn node_at(image: &[u8], at: usize, n: u32, row: &mut [u32]) -> NodeTaken
-    ensures { λ r. ⌜ nodeRow (saidNode r) (now (row .exit)) ≡ nodeOn n (now (image .entry)) at (now (row .entry)) ⌝ }
+pub fn node_at(image: &[u8], at: usize, n: u32, row: &mut [u32]) -> NodeRead
+    ensures { λ r. ⌜ outcome (saidNode r) (now (row .exit)) ≡ nodeOn n (now (image .entry)) at (now (row .entry)) ⌝ }
 {
     let heights = (n as usize) * 7;
     if (n < 1) | (16 < n) | (row.len() != heights) {
-        return NodeTaken::Sizes;
+        return NodeRead::Refused(Refusal::Sizes);
     }
     inside_at(image, at, n, row)
 }

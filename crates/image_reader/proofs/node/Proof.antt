@@ -41,14 +41,15 @@ use denote.Triple.Spec.{Meets, tripleOf}
 use denote.Triple.Table.{entered, cited}
 use denote.Triple.Walked.{says, Stays, stay-none, gave-slice, walkOf, goes-none, goes-gave-slice, Walks, ends-at, walked, walk-meets}
 use denote.Exit.{yes}
-use Rattle.image_reader.specs.Record.{saidNode, nodeRow, nodeOn}
-use Rattle.image_reader.specs.declared.NodeTaken.{NodeTaken}
+use Rattle.refusal.specs.Outcome.{outcome}
+use Rattle.image_reader.specs.Record.{saidNode, nodeOn}
+use Rattle.image_reader.specs.declared.NodeRead.{NodeRead}
 use Rattle.image_reader.specs.declared.Reader.{Reader}
 use Rattle.image_reader.proofs.Held.{Own, ImageOwn, image-out}
 use Rattle.image_reader.proofs.Reader as T
 use Rattle.image_reader.proofs.Reader.Laws as T′
-use Rattle.image_reader.proofs.NodeTaken as S
-use Rattle.image_reader.proofs.NodeTaken.Laws as S′
+use Rattle.image_reader.proofs.NodeRead as S
+use Rattle.image_reader.proofs.NodeRead.Laws as S′
 use Rattle.image_reader.proofs.nodes.node_at as step
 use Rattle.image_reader.proofs.nodes.node_at.Symbol as step-def
 use Rattle.image_reader.proofs.nodes.node_at.Symbol.{name as #reader·node-at}
@@ -69,8 +70,8 @@ stayed = (stay-none B yes, (stay-none (λ _. u32) yes, (gave-slice (1 ∷ []) tt
 abbrev NodeAt : {M : Type 1} (𝓤 : URA M) (H : Heap 𝓤) (A : Atoms 𝓤) (mem : Memory → SProp 𝓤) (run : Routine → Fun 𝓤) → Contract 𝓤
 NodeAt 𝓤 H A mem run = tripleOf 𝓤 H A step.signature (step.spec 𝓤 H A mem run)
 
-abbrev Said : Reader → ℕ → List ℕ → NodeTaken → List ℕ → Type 0
-Said d n ys r zs = nodeRow (saidNode r) zs ≡ nodeOn n (d .image .now) (d .at) ys
+abbrev Said : Reader → ℕ → List ℕ → NodeRead → List ℕ → Type 0
+Said d n ys r zs = outcome (saidNode r) zs ≡ nodeOn n (d .image .now) (d .at) ys
 
 module _ {M : Type 1} (𝓤 : URA M) (H : Heap 𝓤) (A : Atoms 𝓤) (W : Given 𝓤 H A) (mem : Memory → SProp 𝓤) (run : Routine → Fun 𝓤)
     (κ κ′ : Lft) (q q′ : Share) (d : Reader) (n : ℕ) (ok : n < 2 ^ 32) (b o : ℕ) (γ : GName) (ys : List ℕ) where
@@ -127,7 +128,7 @@ module _ {M : Type 1} (𝓤 : URA M) (H : Heap 𝓤) (A : Atoms 𝓤) (W : Given
       owned ! usize (Is usize) (uint-makes 𝓤 H A W w64) (d .at) _ (refl, fits) $ fjoin ! $ move ! (1 ∷ 0 ∷ []) $ fjoin ! $
       move ! (2 ∷ 0 ∷ []) $ use2 W (raw (NodeAt 𝓤 H A mem run .pre to)) asked $ frame ! $ done !
 
-  exits : (r : NodeTaken) (u : Val) (zs : List ℕ) → Said d n ys r zs → length zs ≡ length ys
+  exits : (r : NodeRead) (u : Val) (zs : List ℕ) → Said d n ys r zs → length zs ≡ length ys
       → ent 𝓤 (⋆ 𝓤 H A (‵ (S.the-row .own r (u ∷ [])) ∷ (‵ (flft κ q) ⊛ ‵ (flft κ′ q′) ⊛ ‵ ftrue) ∷ ‵ (finally u32 γ zs) ∷ ‵ (Own α d) ∷ [])) (Post u)
   exits r u zs e l =
       qed W (‵ (S.the-row .own r (u ∷ [])) ∷ (‵ (flft κ q) ⊛ ‵ (flft κ′ q′) ⊛ ‵ ftrue) ∷ ‵ (finally u32 γ zs) ∷ ‵ (Own α d) ∷ []) ∵
@@ -158,7 +159,7 @@ module _ {M : Type 1} (𝓤 : URA M) (H : Heap 𝓤) (A : Atoms 𝓤) (W : Given
         calls-at ! fm (NodeAt 𝓤 H A mem run) known to
         (and-then ! (load ! (from ! (stop !)) (look ! 8 refl)) (and-then ! (load ! (from ! (stop !)) (look ! 6 refl))
         (and-then ! (load ! (from ! (stop !)) (look ! 12 refl)) (and-then ! (load ! (from ! (stop !)) (look ! 2 refl)) (no-more !))))) (λ u.
-        use1 W (later (some (λ (r : NodeTaken). ((‵ (flft κ q) ⊛ ‵ (flft κ′ q′) ⊛ ‵ ftrue) ⊛ ‵ (S.the-row .own r (u ∷ [])))
+        use1 W (later (some (λ (r : NodeRead). ((‵ (flft κ q) ⊛ ‵ (flft κ′ q′) ⊛ ‵ ftrue) ⊛ ‵ (S.the-row .own r (u ∷ [])))
         ⊛ raw (ensured 𝓤 H A step.ended (step.clauses 𝓤 H A mem run) κs given-to tt r)))) (id⊢ 𝓤 _) $ await ! tt $ pick ! (λ r.
         -- what `node_at` ensures, at some last words of the row
         split ! $ move ! (1 ∷ []) $ use1 W (some (λ (zs : Unit {0} × (Unit {0} × (Unit {0} × (List ℕ × Unit {0})))).
@@ -203,5 +204,5 @@ node-spec 𝓤 H 𝓜 𝓖 𝓡 =
     entered 𝓤 H (tripleOf 𝓤 H (𝓖 .A) f.signature (f.spec 𝓤 H (𝓖 .A) (𝓜 .mem) (𝓡 .run)))
     (tables 𝓤 H 𝓜 𝓡 code.env .C) (tables 𝓤 H 𝓜 𝓡 code.env .Λ) #reader·node code.function (code.unfolded 𝓤 H 𝓜 𝓡)
     (node-meets 𝓤 H (𝓖 .A) (givenOf 𝓤 H 𝓜 𝓖) (𝓜 .mem) (𝓡 .run) (tablesOf 𝓤 H 𝓜 (tables 𝓤 H 𝓜 𝓡 code.env))
-    (cited 𝓤 H (NodeAt 𝓤 H (𝓖 .A) (𝓜 .mem) (𝓡 .run)) 𝓜 𝓡 code.env #reader·node-at step-def.routine code.calls-reader·nodes·node-at
+    (cited 𝓤 H (NodeAt 𝓤 H (𝓖 .A) (𝓜 .mem) (𝓡 .run)) 𝓜 𝓡 code.env #reader·node-at step-def.routine code.calls-image-reader·nodes·node-at
     (step-thm.met 𝓤 H 𝓜 𝓖 𝓡)))

@@ -41,13 +41,14 @@ use denote.Triple.Table.{entered, cited}
 use denote.Triple.Walked.{says, Stays, stay-none, stay-none-slice, gave-slice, walkOf, goes-none, goes-none-slice, goes-gave-slice, Walks, ends-at}
 use denote.Triple.Walked.{walked, walk-meets}
 use denote.Exit.{yes}
-use Rattle.image_reader.specs.Record.{saidNode, nodeRow, nodeOn}
-use Rattle.image_reader.specs.declared.NodeTaken.{NodeTaken}
+use Rattle.refusal.specs.Outcome.{outcome}
+use Rattle.image_reader.specs.Record.{saidNode, nodeOn}
+use Rattle.image_reader.specs.declared.NodeRead.{NodeRead}
 use Rattle.image_reader.specs.declared.Reader.{Reader}
 use Rattle.image_reader.proofs.Reader as T
 use Rattle.image_reader.proofs.Reader.Laws as T′
-use Rattle.image_reader.proofs.NodeTaken as S
-use Rattle.image_reader.proofs.NodeTaken.Laws as S′
+use Rattle.image_reader.proofs.NodeRead as S
+use Rattle.image_reader.proofs.NodeRead.Laws as S′
 use Rattle.image_reader.proofs.new as new
 use Rattle.image_reader.proofs.new.Symbol as new-def
 use Rattle.image_reader.proofs.new.Symbol.{name as #reader·new}
@@ -81,8 +82,8 @@ Node 𝓤 H A mem run = tripleOf 𝓤 H A node.signature (node.spec 𝓤 H A mem
 abbrev Made : RefT (List ℕ) → ℕ → Reader → Type 0
 Made s p r = (r .image ≡ s) × (r .at ≡ p)
 
-abbrev Said : RefT (List ℕ) → ℕ → ℕ → List ℕ → NodeTaken → List ℕ → Type 0
-Said s p n ys t zs = nodeRow (saidNode t) zs ≡ nodeOn n (s .now) p ys
+abbrev Said : RefT (List ℕ) → ℕ → ℕ → List ℕ → NodeRead → List ℕ → Type 0
+Said s p n ys t zs = outcome (saidNode t) zs ≡ nodeOn n (s .now) p ys
 
 module _ {M : Type 1} (𝓤 : URA M) (H : Heap 𝓤) (A : Atoms 𝓤) (W : Given 𝓤 H A) (mem : Memory → SProp 𝓤) (run : Routine → Fun 𝓤)
     (κ κ′ : Lft) (q q′ : Share) (s : RefT (List ℕ)) (p n : ℕ) (p-fits : p < 2 ^ 64) (n-fits : n < 2 ^ 32) (b o : ℕ) (γ : GName) (ys : List ℕ) where
@@ -167,7 +168,7 @@ module _ {M : Type 1} (𝓤 : URA M) (H : Heap 𝓤) (A : Atoms 𝓤) (W : Given
       move ! (3 ∷ []) $ split ! $ move ! (1 ∷ []) $ drop ! $ move ! (0 ∷ 2 ∷ []) $ join ! $
       use2 W (raw (Node 𝓤 H A mem run .pre (to-node u))) (asks-node u) $ frame ! $ done !
 
-  exits : (t : NodeTaken) (u : Val) (zs : List ℕ) → Said s p n ys t zs → length zs ≡ length ys
+  exits : (t : NodeRead) (u : Val) (zs : List ℕ) → Said s p n ys t zs → length zs ≡ length ys
       → ent 𝓤 (⋆ 𝓤 H A (‵ (S.the-row .own t (u ∷ [])) ∷ (‵ (flft κ q) ⊛ ‵ (flft κ′ q′) ⊛ ‵ ftrue) ∷ ‵ (finally u32 γ zs) ∷ ‵ Own ∷ [])) (Post u)
   exits t u zs e l =
       qed W (‵ (S.the-row .own t (u ∷ [])) ∷ (‵ (flft κ q) ⊛ ‵ (flft κ′ q′) ⊛ ‵ ftrue) ∷ ‵ (finally u32 γ zs) ∷ ‵ Own ∷ []) ∵
@@ -204,7 +205,7 @@ module _ {M : Type 1} (𝓤 : URA M) (H : Heap 𝓤) (A : Atoms 𝓤) (W : Given
         use3 W (raw (Node 𝓤 H A mem run .pre (to-node u)) ⊛ ‵ Own) (goes-node u) $ split ! $
         calls-at ! fm (Node 𝓤 H A mem run) known-node (to-node u) (and-then ! (load ! (from ! (stop !)) (look ! 6 refl))
         (and-then ! (load ! (from ! (stop !)) (look ! 10 refl)) (and-then ! (load ! (from ! (stop !)) (look ! 2 refl)) (no-more !)))) (λ u′.
-        use1 W (later (some (λ (t : NodeTaken). ((‵ (flft κ q) ⊛ ‵ (flft κ′ q′) ⊛ ‵ ftrue) ⊛ ‵ (S.the-row .own t (u′ ∷ [])))
+        use1 W (later (some (λ (t : NodeRead). ((‵ (flft κ q) ⊛ ‵ (flft κ′ q′) ⊛ ‵ ftrue) ⊛ ‵ (S.the-row .own t (u′ ∷ [])))
         ⊛ raw (ensured 𝓤 H A node.ended (node.clauses 𝓤 H A mem run) κs (h, (n, (x, tt))) tt t)))) (id⊢ 𝓤 _) $ await ! tt $ pick ! (λ t.
         -- what `node` ensures, at some last words of the row
         split ! $ move ! (1 ∷ []) $ use1 W (some (λ (zs : Unit {0} × (Unit {0} × (List ℕ × Unit {0}))).
@@ -249,5 +250,5 @@ read-node-spec 𝓤 H 𝓜 𝓖 𝓡 =
     entered 𝓤 H (tripleOf 𝓤 H (𝓖 .A) f.signature (f.spec 𝓤 H (𝓖 .A) (𝓜 .mem) (𝓡 .run)))
     (tables 𝓤 H 𝓜 𝓡 code.env .C) (tables 𝓤 H 𝓜 𝓡 code.env .Λ) #reader·read-node code.function (code.unfolded 𝓤 H 𝓜 𝓡)
     (read-node-meets 𝓤 H (𝓖 .A) (givenOf 𝓤 H 𝓜 𝓖) (𝓜 .mem) (𝓡 .run) (tablesOf 𝓤 H 𝓜 (tables 𝓤 H 𝓜 𝓡 code.env))
-    (cited 𝓤 H (New 𝓤 H (𝓖 .A) (𝓜 .mem) (𝓡 .run)) 𝓜 𝓡 code.env #reader·new new-def.routine code.calls-reader·new (new-thm.met 𝓤 H 𝓜 𝓖 𝓡))
-    (cited 𝓤 H (Node 𝓤 H (𝓖 .A) (𝓜 .mem) (𝓡 .run)) 𝓜 𝓡 code.env #reader·node node-def.routine code.calls-reader·node (node-thm.met 𝓤 H 𝓜 𝓖 𝓡)))
+    (cited 𝓤 H (New 𝓤 H (𝓖 .A) (𝓜 .mem) (𝓡 .run)) 𝓜 𝓡 code.env #reader·new new-def.routine code.calls-image-reader·new (new-thm.met 𝓤 H 𝓜 𝓖 𝓡))
+    (cited 𝓤 H (Node 𝓤 H (𝓖 .A) (𝓜 .mem) (𝓡 .run)) 𝓜 𝓡 code.env #reader·node node-def.routine code.calls-image-reader·node (node-thm.met 𝓤 H 𝓜 𝓖 𝓡)))

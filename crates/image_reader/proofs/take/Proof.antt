@@ -45,7 +45,8 @@ use denote.Triple.Spec.{Meets, tripleOf}
 use denote.Triple.Table.{entered, cited}
 use denote.Triple.Walked.{says, Stays, stay-ref, stay-none, walkOf, goes-none, goes-ref, Walks, ends-at, walked, walk-meets}
 use denote.Exit.{yes}
-use Rattle.image_reader.specs.Fields.{saidTaken, placed, takeOn}
+use Rattle.refusal.specs.Outcome.{outcome}
+use Rattle.image_reader.specs.Fields.{saidTaken, takeOn}
 use Rattle.image_reader.specs.declared.Reader.{Reader}
 use Rattle.image_reader.specs.declared.Taken.{Taken}
 use Rattle.image_reader.specs.declared.fields.TakeStep.{TakeStep}
@@ -89,7 +90,7 @@ abbrev Step : {M : Type 1} (𝓤 : URA M) (H : Heap 𝓤) (A : Atoms 𝓤) (mem 
 Step 𝓤 H A mem run = tripleOf 𝓤 H A step.signature (step.spec 𝓤 H A mem run)
 
 abbrev Said : Reader → ℕ → TakeStep → Type 0
-Said h n r = placed (saidTaken (r .taken)) (r .next) ≡ takeOn (h .image .now) (h .at) n
+Said h n r = outcome (saidTaken (r .taken)) (r .next) ≡ takeOn (h .image .now) (h .at) n
 
 module _ {M : Type 1} (𝓤 : URA M) (H : Heap 𝓤) (A : Atoms 𝓤) (W : Given 𝓤 H A) (at-mem : Memory → SProp 𝓤) (run : Routine → Fun 𝓤)
     (κ κ′ : Lft) (q q′ : Share) (bounds : AllOutlive 2 (f.signature .outlives) (κ, (κ′, tt))) (b o : ℕ) (γ : GName) (h : Reader)
@@ -224,5 +225,5 @@ take-spec 𝓤 H 𝓜 𝓖 𝓡 =
     entered 𝓤 H (tripleOf 𝓤 H (𝓖 .A) f.signature (f.spec 𝓤 H (𝓖 .A) (𝓜 .mem) (𝓡 .run)))
     (tables 𝓤 H 𝓜 𝓡 code.env .C) (tables 𝓤 H 𝓜 𝓡 code.env .Λ) #reader·take code.function (code.unfolded 𝓤 H 𝓜 𝓡)
     (take-meets 𝓤 H (𝓖 .A) (givenOf 𝓤 H 𝓜 𝓖) (𝓜 .mem) (𝓡 .run) (tablesOf 𝓤 H 𝓜 (tables 𝓤 H 𝓜 𝓡 code.env))
-    (cited 𝓤 H (Step 𝓤 H (𝓖 .A) (𝓜 .mem) (𝓡 .run)) 𝓜 𝓡 code.env #reader·take-at step-def.routine code.calls-reader·fields·take-at
+    (cited 𝓤 H (Step 𝓤 H (𝓖 .A) (𝓜 .mem) (𝓡 .run)) 𝓜 𝓡 code.env #reader·take-at step-def.routine code.calls-image-reader·fields·take-at
     (step-thm.met 𝓤 H 𝓜 𝓖 𝓡)))
