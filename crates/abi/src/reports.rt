@@ -16,14 +16,14 @@ use super::NodeReport;
 use super::SaveReport;
 use height::ReferenceLevel;
 use height::Time;
-use lent::Checked;
-use protocol::Answer;
-use protocol::Refusal;
-use protocol::Rule;
 use image_snapshot::NodeRead;
 use image_snapshot::NodeRecord;
 use image_snapshot::Restored;
 use image_snapshot::Saved;
+use lent::Checked;
+use protocol::Answer;
+use protocol::Refusal;
+use protocol::Rule;
 
 // ---- events
 

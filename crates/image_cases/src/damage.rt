@@ -135,7 +135,12 @@ pub fn restores() {
 fn looked(image: &[u8], len: usize, row: &mut [u32], wide: usize) {
     if len <= image.len() {
         if wide <= row.len() {
-            super::lines::looked(image_snapshot::read_node(&image[..len], 2, 288, &mut row[..wide]));
+            super::lines::looked(image_snapshot::read_node(
+                &image[..len],
+                2,
+                288,
+                &mut row[..wide],
+            ));
         }
     }
 }

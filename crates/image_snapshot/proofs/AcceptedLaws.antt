@@ -1,25 +1,27 @@
 -- What an accepted restore shows of its bytes: header, walk, end and contents, and the tables afterwards.
--- Assumes nothing.
 use Prim.Native.Nat.{ℕ, _+_, _≤_, _<_}
 use native.Mathlib.Omega.{arith}
 use mathlib.Core.Bool.{true, cond, _&&_}
 use mathlib.Core.List.{List}
 use mathlib.Core.Path.{_≡_, refl}
-use borrow.Author.Tests.{eqb-true, eqb-false, leb-true, ltb-true, ltb-false}
+use borrow.Author.Tests.{eq-eqb, eqb-true, eqb-false, leb-true, ltb-true, ltb-false}
 use lib.Dec.{eqb, leb, ltb}
 use lib.ListN.{length, drop}
 use Rattle.bits.specs.Bits.{field, number, unpacked}
 use Rattle.image.specs.Places.{imageEnd, tablesIn}
-use Rattle.lent.specs.Check.{checked, firstFault}
-use Rattle.basics.proofs.Tests.{Choice, yes!, no!, choice, and-left, and-right}
+use Rattle.lent.specs.Check.{firstFault}
+use Rattle.basics.proofs.Tests.{Choice, yes!, no!, choice, and-left, and-right, clash}
 use Rattle.image_reading.specs.Examine.{Walkable, afterWalk, examined}
 use Rattle.image_reading.specs.Header.{fieldsOf, headerHolds, headerOf}
 use Rattle.image_reading.specs.Walk.{walk, endsAt}
 use Rattle.image_reading.specs.declared.Walk.{Walk}
-use Rattle.image_reading.specs.declared.Walk.the-variants.{At, Over, Cut}
+use Rattle.image_reading.specs.declared.Walk.the-variants.{At, Refused}
+use Rattle.refusal.proofs.RefusalLaws.{never-0}
 use Rattle.image_reading.proofs.WalkLaws.{walk-accepted}
 use Rattle.tables.specs.Tables.{Tables, sized}
 use Rattle.image_snapshot.specs.Restore.{restoreExamined, restoreOf, restoreHeaded, restoreOn}
+use Rattle.refusal.specs.Outcome.{accepted}
+use Rattle.refusal.specs.Refusal.{why, whyOf}
 
 -- ---- the header
 
@@ -30,13 +32,13 @@ pub record HeaderGood (xs : List ℕ) : Type 0 where
   pub low : 1 ≤ field xs 16 5
   pub few : field xs 16 5 ≤ 16
   pub spare : field xs 21 11 ≡ 0
-  pub is : headerOf xs ≡ fieldsOf xs
+  pub is : headerOf xs ≡ accepted (fieldsOf xs)
 
-pub header-good : (xs : List ℕ) → headerOf xs .number ≡ 0 → HeaderGood xs
+pub header-good : (xs : List ℕ) → headerOf xs .why .number ≡ 0 → HeaderGood xs
 unfolding headerOf headerHolds
 header-good xs zero = go (choice (ltb (length xs) 4)) (choice (headerHolds 1 32 xs)) zero
   where
-    go : Choice (ltb (length xs) 4) → Choice (headerHolds 1 32 xs) → headerOf xs .number ≡ 0 → HeaderGood xs
+    go : Choice (ltb (length xs) 4) → Choice (headerHolds 1 32 xs) → headerOf xs .why .number ≡ 0 → HeaderGood xs
     go (yes! e) b q = let y : _≡_ {A = ℕ} 10 0 = rw e at q in absurd (omega arith)
     go (no! e) (no! f) q = let y : _≡_ {A = ℕ} 11 0 = rw (e, f) at q in absurd (omega arith)
     go (no! e) (yes! f) q =
@@ -71,7 +73,7 @@ pub examined-good : (n : ℕ) (l : List ℕ) → n ≤ 16 → examined 32 16 n l
 unfolding examined afterWalk endsAt
 examined-good n l few zero = go (walk 32 16 n l) refl zero
   where
-    good : (q : ℕ) → walk 32 16 n l ≡ At q → Choice (endsAt l q) → cond (endsAt l q) (firstFault n (tablesIn 32 16 n l)) (checked 12 0 0) .number ≡ 0
+    good : (q : ℕ) → walk 32 16 n l ≡ At q → Choice (endsAt l q) → cond (endsAt l q) (firstFault n (tablesIn 32 16 n l)) (why 12 0 0) .number ≡ 0
         → ExaminedGood n l
     good q w (no! e) z = let y : _≡_ {A = ℕ} 12 0 = rw e at z in absurd (omega arith)
     good q w (yes! e) z =
@@ -88,8 +90,7 @@ examined-good n l few zero = go (walk 32 16 n l) refl zero
 
     go : (w : Walk) → walk 32 16 n l ≡ w → afterWalk 32 16 n l w .number ≡ 0 → ExaminedGood n l
     go (At q) e z = good q e (choice (endsAt l q)) z
-    go (Over u v) e z = absurd (omega arith)
-    go Cut e z = absurd (omega arith)
+    go (Refused r) e z = clash (eq-eqb (whyOf r .number) 0 z) (never-0 r)
 
 -- ---- an accepted restore
 
@@ -101,13 +102,13 @@ pub record RestoreGood (xs : List ℕ) (t : Tables) : Type 0 where
 
 pub restore-good : (xs : List ℕ) (t : Tables) → restoreOn xs t .said .number ≡ 0 → RestoreGood xs t
 unfolding restoreOn restoreHeaded restoreOf restoreExamined
-restore-good xs t zero = go (choice (eqb (headerOf xs .number) 0)) zero
+restore-good xs t zero = go (choice (eqb (headerOf xs .why .number) 0)) zero
   where
     good : HeaderGood xs → Choice (sized (field xs 16 5) t) → Choice (eqb (examined 32 16 (field xs 16 5) (unpacked xs) .number) 0)
         → restoreOf (field xs 16 5) (unpacked xs) t .said .number ≡ 0 → RestoreGood xs t
     good h (no! e) b z = let y : _≡_ {A = ℕ} 1 0 = rw e at z in absurd (omega arith)
     good h (yes! e) (no! f) z =
-        let y : examined 32 16 (field xs 16 5) (unpacked xs) .number ≡ 0 = rw (e, f) at z in
+        let y : examined 32 16 (field xs 16 5) (unpacked xs) .number ≡ 0 = rw e at z in
         absurd (eqb-false (examined 32 16 (field xs 16 5) (unpacked xs) .number) 0 f y)
     good h (yes! e) (yes! f) z = record {
       header = h;
@@ -116,8 +117,8 @@ restore-good xs t zero = go (choice (eqb (headerOf xs .number) 0)) zero
       after-is = rw (h .is, e, f);
     }
 
-    go : Choice (eqb (headerOf xs .number) 0) → restoreHeaded (unpacked xs) t (headerOf xs) .said .number ≡ 0 → RestoreGood xs t
-    go (no! e) z = absurd (eqb-false (headerOf xs .number) 0 e (rw e at z))
+    go : Choice (eqb (headerOf xs .why .number) 0) → restoreHeaded (unpacked xs) t (headerOf xs) .said .number ≡ 0 → RestoreGood xs t
+    go (no! e) z = absurd (eqb-false (headerOf xs .why .number) 0 e (rw e at z))
     go (yes! e) z =
-        let h = header-good xs (eqb-true (headerOf xs .number) 0 e) in
+        let h = header-good xs (eqb-true (headerOf xs .why .number) 0 e) in
         good h (choice (sized (field xs 16 5) t)) (choice (eqb (examined 32 16 (field xs 16 5) (unpacked xs) .number) 0)) (rw (h .is) at z)

@@ -17,20 +17,22 @@ use Rattle.image.proofs.NetworkFits.{network-fit}
 use Rattle.image.proofs.ReadBack.{Fit, Agree}
 use Rattle.image.proofs.TablesRecords.{length-words, network-tables, agree-tables}
 use Rattle.image.proofs.Whole.{version-read, header-read, count-read, spare-read, image-read, image-end, image-inside, image-no-more}
-use Rattle.lent.specs.Check.{checked, checkOn, firstFault}
+use Rattle.lent.specs.Check.{checkOn, firstFault}
 use Rattle.lent.proofs.SoundNetworks.{sound-check}
 use Rattle.protocol.specs.Network.{Two, Network, restrict}
 use Rattle.protocol.specs.Holds.{sound}
 use Rattle.protocol.proofs.Soundness.{Fits, diagonal}
 use Rattle.protocol.proofs.SoundStep.{sound-fits}
 use Rattle.image_reading.specs.Examine.{afterWalk, examined}
-use Rattle.image_reading.specs.Header.{goodHeader, fieldsOf, headerHolds, headerOf}
+use Rattle.image_reading.specs.Header.{fieldsOf, headerHolds, headerOf}
 use Rattle.image_reading.specs.Walk.{walk, endsAt}
 use Rattle.image_reading.specs.declared.Walk.the-variants.{At}
 use Rattle.image_reading.proofs.WalkLaws.{walk-goes}
 use Rattle.tables.specs.Load.{tablesOf}
 use Rattle.tables.specs.Tables.{sized}
 use Rattle.tables.proofs.Back.{storable}
+use Rattle.refusal.specs.Outcome.{accepted}
+use Rattle.refusal.specs.Refusal.{why}
 
 module _ (n : ℕ) (low : 1 ≤ n) (few : n ≤ 16) (p : Network) (holds : sound n p ≡ true) (inside : restrict n p ≡ p) where
   fits : Fits n p
@@ -43,7 +45,7 @@ module _ (n : ℕ) (low : 1 ≤ n) (few : n ≤ 16) (p : Network) (holds : sound
   unfolding image
   long = omega (arith, length-image 1 32 16 n (recordsOf n p), length-whole 1 32 16 n (recordsOf n p) (omega arith))
 
-  pub image-fields : fieldsOf (image n p) ≡ goodHeader 1 32 n
+  pub image-fields : fieldsOf (image n p) ≡ record { version = 1; length = 32; n = n }
   unfolding image field fieldIn
   image-fields =
       rw (
@@ -64,7 +66,7 @@ module _ (n : ℕ) (low : 1 ≤ n) (few : n ≤ 16) (p : Network) (holds : sound
         le-leb n 16 few,
       )
 
-  pub image-header : headerOf (image n p) ≡ goodHeader 1 32 n
+  pub image-header : headerOf (image n p) ≡ accepted (record { version = 1; length = 32; n = n })
   unfolding headerOf
   image-header = rw (le-ltb (length (image n p)) 4 long, header-holds, image-fields)
 
@@ -117,16 +119,16 @@ module _ (n : ℕ) (low : 1 ≤ n) (few : n ≤ 16) (p : Network) (holds : sound
       rw (lt-ltb (length l) (e + 8) (rw (length-unpacked (imageOf 1 32 16 n (recordsOf n p))) near), rest, number-zeros _)
 
   -- nothing is at fault
-  pub image-sound : firstFault n (tablesIn 32 16 n (unpacked (image n p))) ≡ checked 0 0 0
+  pub image-sound : firstFault n (tablesIn 32 16 n (unpacked (image n p))) ≡ why 0 0 0
   image-sound = rw image-tables (sized-check (sized n (tablesOf n p)) refl (unfold checkOn in sound-check n p (storable n p fits) holds low few))
     where
-      sized-check : (b : Bool) → sized n (tablesOf n p) ≡ b → cond (sized n (tablesOf n p)) (firstFault n (tablesOf n p)) (checked 1 0 0) ≡ checked 0 0 0
-          → firstFault n (tablesOf n p) ≡ checked 0 0 0
+      sized-check : (b : Bool) → sized n (tablesOf n p) ≡ b → cond (sized n (tablesOf n p)) (firstFault n (tablesOf n p)) (why 1 0 0) ≡ why 0 0 0
+          → firstFault n (tablesOf n p) ≡ why 0 0 0
       sized-check true e h = rw e at h
       sized-check false e h =
           let z : _≡_ {A = ℕ} 1 0 = ap (λ c. c .number) (rw e at h) in
           absurd (omega arith)
 
-  pub image-examined : examined 32 16 n (unpacked (image n p)) ≡ checked 0 0 0
+  pub image-examined : examined 32 16 n (unpacked (image n p)) ≡ why 0 0 0
   unfolding examined afterWalk
   image-examined = rw (image-walk, image-ends) image-sound

@@ -15,21 +15,25 @@ use Rattle.image.specs.Parts.{Inside}
 use Rattle.image.specs.Places.{nodePlace, channelsPlace}
 use Rattle.image.specs.Widths.{nodeWidth}
 use Rattle.image.proofs.PlaceLaws.{node-in, start-in}
-use Rattle.lent.specs.Check.{checked}
 use Rattle.protocol.specs.Network.{Node, isNode}
 use Rattle.protocol.proofs.NodeLaws.{node-passes}
 use Rattle.image_reader.specs.Fields.{standsIn}
-use Rattle.image_reader.specs.Record.{NodeRow, nodeRow, recordIn, nodeInside, nodeOn, saidNode as saidRead}
-use Rattle.image_reader.specs.declared.NodeTaken.{NodeTaken}
-use Rattle.image_reading.specs.Examine.{Walkable, saidExamined, examined}
-use Rattle.image_reading.specs.Header.{SaidHeader, saidHeader, headerOf}
-use Rattle.image_reading.specs.declared.Examined.{Examined}
-use Rattle.image_reading.specs.declared.Examined.the-variants.{Sound, Fault, BadEnd}
+use Rattle.image_reader.specs.Record.{recordIn, nodeInside, nodeOn}
+use Rattle.image_reading.specs.Examine.{Walkable, examined}
+use Rattle.image_reading.specs.Header.{saidHeader, headerOf}
 use Rattle.image_reading.specs.declared.Fields.{Fields}
 use Rattle.image_reading.specs.declared.Header.{Header}
-use Rattle.image_reading.specs.declared.Header.the-variants.{Good}
+use Rattle.image_reading.specs.declared.Header.the-variants.{Good, Refused}
+use Rattle.lent.specs.Check.{saidCheck}
+use Rattle.lent.specs.declared.Checked.{Checked}
+use Rattle.lent.specs.declared.Checked.the-variants as checks
+use Rattle.refusal.proofs.RefusalLaws.{never-0}
+use Rattle.refusal.specs.declared.Refusal.{Refusal}
 use Rattle.tables.proofs.RowsLaws.{product-le}
-use Rattle.image_snapshot.specs.ReadNode.{Looked, looked, refusedNode, nodeAt, nodePlaced, nodeExamined, nodeSized, nodeHeaded, readNodeOn}
+use Rattle.image_snapshot.specs.ReadNode.{Looked, nodePlaced, nodeExamined, nodeSized, nodeHeaded, readNodeOn}
+use Rattle.image_reader.specs.Record.{unread}
+use Rattle.refusal.specs.Outcome.{Answered}
+use Rattle.refusal.specs.Refusal.{why, whyOf}
 
 -- the records before one of 16 nodes take few bits
 pub before-small : (n k : ℕ) → n ≤ 16 → 1 ≤ k → k ≤ n → (k - 1) * (64 + 96 * n) ≤ 24000
@@ -48,10 +52,10 @@ node-is n k e = go (choice (ltb k 1)) (choice (ltb n k))
 
 -- ---- by what the header and the checks answer
 
-pub node-refused : (xs : List ℕ) (k place : ℕ) (row : List ℕ) {s : SaidHeader} → s ≡ headerOf xs → (s .number ≡ 0 → ⊥)
-    → looked (refusedNode (checked (s .number) 0 0)) row ≡ readNodeOn xs k place row
+pub node-refused : (xs : List ℕ) (k place : ℕ) (row : List ℕ) {h : Header} → saidHeader h ≡ headerOf xs → {r : Refusal} → h ≡ Refused r
+    → unread (whyOf r) row ≡ readNodeOn xs k place row
 unfolding readNodeOn nodeHeaded
-node-refused xs k place row {s} e d = rw (← e, ne-eqb (s .number) 0 d)
+node-refused xs k place row e {r} q = rw (← e, q, never-0 r)
 
 pub node-headed : (xs : List ℕ) (k place : ℕ) (row : List ℕ) {h : Header} → saidHeader h ≡ headerOf xs → {f : Fields} → h ≡ Good f
     → nodeSized (f .length) (f .n) (unpacked xs) k place row ≡ readNodeOn xs k place row
@@ -59,34 +63,30 @@ unfolding readNodeOn nodeHeaded
 node-headed xs k place row e q = ap (nodeHeaded (unpacked xs) k place row) (ap saidHeader (sym q) ∙ e)
 
 module _ (h n : ℕ) (l : List ℕ) (k place : ℕ) (row : List ℕ) where
-  pub node-sizes : (length row ≡ n * 7 → ⊥) → looked (refusedNode (checked 1 0 0)) row ≡ nodeSized h n l k place row
+  pub node-sizes : (length row ≡ n * 7 → ⊥) → unread (why 1 0 0) row ≡ nodeSized h n l k place row
   unfolding nodeSized
   node-sizes d = rw (ne-eqb (length row) (n * 7) d)
 
-  module _ (wide : length row ≡ n * 7) {r : Examined} (answers : saidExamined r ≡ examined 32 16 n l) where
-    by : {x : Examined} → r ≡ x → nodeExamined h n l k place row (saidExamined x) ≡ nodeSized h n l k place row
+  module _ (wide : length row ≡ n * 7) {r : Checked} (answers : saidCheck r ≡ examined 32 16 n l) where
+    by : {x : Checked} → r ≡ x → nodeExamined h n l k place row (saidCheck x) ≡ nodeSized h n l k place row
     unfolding nodeSized
     by e = rw (eq-eqb (length row) (n * 7) wide, ← answers, e)
 
-    pub node-fault : {u v : ℕ} → r ≡ Fault u v → looked (refusedNode (checked 2 u v)) row ≡ nodeSized h n l k place row
+    pub node-faulty : {why : Refusal} → r ≡ checks.Refused why → unread (whyOf why) row ≡ nodeSized h n l k place row
     unfolding nodeExamined
-    node-fault e = by e
+    node-faulty {why} e = rw (never-0 why) at (by e)
 
-    pub node-end : r ≡ BadEnd → looked (refusedNode (checked 12 0 0)) row ≡ nodeSized h n l k place row
-    unfolding nodeExamined
-    node-end e = by e
-
-    pub node-sound : r ≡ Sound → nodePlaced h n l k place row ≡ nodeSized h n l k place row
+    pub node-sound : r ≡ checks.Sound → nodePlaced h n l k place row ≡ nodeSized h n l k place row
     unfolding nodeExamined
     node-sound e = by e
 
   -- ---- then 3 and 13
 
-  pub not-node : (ltb k 1 || ltb n k) ≡ true → looked (refusedNode (checked 3 0 0)) row ≡ nodePlaced h n l k place row
+  pub not-node : (ltb k 1 || ltb n k) ≡ true → unread (why 3 0 0) row ≡ nodePlaced h n l k place row
   unfolding nodePlaced
   not-node e = go (choice (isNode n k))
     where
-      go : Choice (isNode n k) → looked (refusedNode (checked 3 0 0)) row ≡ nodePlaced h n l k place row
+      go : Choice (isNode n k) → unread (why 3 0 0) row ≡ nodePlaced h n l k place row
       go (no! q) = rw q
       go (yes! q) =
           let a = leb-true 1 k (and-left (leb 1 k) (leb k n) q) in
@@ -94,11 +94,11 @@ module _ (h n : ℕ) (l : List ℕ) (k place : ℕ) (row : List ℕ) where
           clash (rw (le-ltb k 1 a, le-ltb n k b) at e) refl
 
   module _ (node : Node n k) where
-    pub not-place : (place ≡ nodePlace h 16 n k → ⊥) → looked (refusedNode (checked 13 0 0)) row ≡ nodePlaced h n l k place row
+    pub not-place : (place ≡ nodePlace h 16 n k → ⊥) → unread (why 13 0 0) row ≡ nodePlaced h n l k place row
     unfolding nodePlaced
     not-place d = rw (node-passes n k node, ne-eqb place (nodePlace h 16 n k) d)
 
-    pub at-place : (at : ℕ) → at ≡ nodePlace h 16 n k → place ≡ at → nodeAt n l at ≡ nodePlaced h n l k place row
+    pub at-place : (at : ℕ) → at ≡ nodePlace h 16 n k → place ≡ at → recordIn n l at ≡ nodePlaced h n l k place row
     unfolding nodePlaced
     at-place at e q = rw (node-passes n k node, eq-eqb place (nodePlace h 16 n k) (q ∙ e), q)
 
@@ -113,16 +113,9 @@ record-inside xs n k at w node e =
       inside = omega (arith, a, b, w .inside, e, length-unpacked xs);
     }
 
--- ---- what a reader there answers
-
--- the reader's answer as one of this crate
-abbrev pub as-looked : NodeRow → Looked
-as-looked r =
-    looked (record { check = checked (r .said .number) 0 0; clock = r .said .clock; neighbors = r .said .neighbors; forming = r .said .forming }) (r .row)
-
 -- a reader refuses no record that stands inside
 module _ (n : ℕ) (xs : List ℕ) (at : ℕ) (row : List ℕ) (low : 1 ≤ n) (high : n ≤ 16) (wide : length row ≡ n * 7) (i : Inside xs at (nodeWidth 16 n)) where
-  reader-reads : nodeOn n xs at row ≡ recordIn n (unpacked xs) at
+  pub reader-reads : nodeOn n xs at row ≡ recordIn n (unpacked xs) at
   unfolding nodeOn nodeInside standsIn
   reader-reads =
       let w = nodeWidth 16 n in
@@ -133,8 +126,3 @@ module _ (n : ℕ) (xs : List ℕ) (at : ℕ) (row : List ℕ) (low : 1 ≤ n) (
         lt-ltb (at + w) (2 ^ 64) (omega (arith, i .small)),
         le-leb (at + w) (8 * length xs) (i .inside),
       )
-
-  pub reader-answers : {t u : NodeTaken} {zs : List ℕ} → nodeRow (saidRead t) zs ≡ nodeOn n xs at row → t ≡ u
-      → as-looked (nodeRow (saidRead u) zs) ≡ nodeAt n (unpacked xs) at
-  unfolding nodeAt recordIn
-  reader-answers {zs} e q = ap (λ (v : NodeTaken). as-looked (nodeRow (saidRead v) zs)) (sym q) ∙ ap as-looked (e ∙ reader-reads)

@@ -13,7 +13,7 @@ use Rattle.image.specs.Parts.{rowFrom}
 use Rattle.image.specs.Places.{nodePlace, recordsIn, tablesIn}
 use Rattle.image.proofs.PartLaws.{row-read}
 use Rattle.image.proofs.TablesRecords.{row-from}
-use Rattle.lent.specs.Check.{SaidCheck, checked, checkOn}
+use Rattle.lent.specs.Check.{checkOn}
 use Rattle.lent.proofs.CheckLaws.{sound-sized}
 use Rattle.lent.proofs.SoundLoads.{sound-loads, load-inside}
 use Rattle.lent.proofs.SoundTables.{Words, sound-fits}
@@ -21,7 +21,6 @@ use Rattle.nodeset.specs.NodeSet.{setOf}
 use Rattle.protocol.specs.Network.{Node, Network, restrict}
 use Rattle.protocol.specs.Holds.{sound}
 use Rattle.image_reading.specs.Examine.{Walkable}
-use Rattle.image_reading.specs.Header.{SaidHeader}
 use Rattle.image_reading.proofs.ShapeLaws.{records-shaped}
 use Rattle.tables.specs.Load.{load, tablesOf}
 use Rattle.tables.specs.Row.{clockIn, neighborsIn, formingIn, nodeWords}
@@ -29,7 +28,12 @@ use Rattle.tables.specs.Rows.{rows}
 use Rattle.tables.specs.Tables.{Tables, nodeOf}
 use Rattle.tables.proofs.Back.{node-of}
 use Rattle.tables.proofs.TablesLaws.{tables-back}
-use Rattle.image_snapshot.specs.ReadNode.{Looked, looked, nodeAt, readNodeOn}
+use Rattle.image_snapshot.specs.ReadNode.{Looked, readNodeOn}
+use Rattle.image_reader.specs.Record.{recordIn}
+use Rattle.image_reading.specs.declared.Fields.{Fields}
+use Rattle.refusal.specs.Outcome.{accepted, Answered, outcome}
+use Rattle.refusal.specs.Refusal.{why}
+use Rattle.refusal.specs.declared.Why.{Why}
 use Rattle.image_snapshot.proofs.AcceptedLaws.{header-good, examined-good}
 use Rattle.image_snapshot.proofs.ImageLaws.{image-header, image-fields, image-tables, image-examined}
 use Rattle.image_snapshot.proofs.NodePlaces.{own-place}
@@ -37,12 +41,12 @@ use Rattle.image_snapshot.proofs.NodePlaces.{own-place}
 -- accepted, with the words of a row of the tables
 abbrev pub rowLooked : List ℕ → Looked
 rowLooked row =
-    looked (record { check = checked 0 0 0; clock = clockIn row; neighbors = neighborsIn row; forming = formingIn row }) (drop 3 row)
+    outcome (accepted (record { clock = record { 0 = clockIn row }; neighbors = neighborsIn row; forming = formingIn row })) (drop 3 row)
 
 -- the record at a node's place is that node's row of the image's tables
 row-looked : (n : ℕ) (l : List ℕ) → Walkable 32 16 n l → (k : ℕ) → Node n k
-    → nodeAt n l (nodePlace 32 16 n k) ≡ rowLooked (nodeOf n k (tablesIn 32 16 n l .nodes))
-unfolding nodeAt rowFrom tablesIn
+    → recordIn n l (nodePlace 32 16 n k) ≡ rowLooked (nodeOf n k (tablesIn 32 16 n l .nodes))
+unfolding recordIn rowFrom tablesIn
 row-looked n l walks k node =
     let e : suc (k - 1) ≡ k = omega (arith, node .low) in
     let row = row-from n (recordsIn 32 16 n l) (records-shaped 32 16 n l walks) (k - 1) (omega (arith, node .low, node .high)) in
@@ -53,15 +57,15 @@ module _ (n : ℕ) (low : 1 ≤ n) (few : n ≤ 16) (p : Network) (holds : sound
   look-tables : readNodeOn (image n p) k (nodePlace 32 16 n k) row ≡ rowLooked (nodeOf n k (tablesOf n p .nodes))
   look-tables =
       let xs = image n p in
-      let count : field xs 16 5 ≡ n = ap (λ (s : SaidHeader). s .n) (image-fields n low few p holds inside) in
-      let header = header-good xs (ap (λ (s : SaidHeader). s .number) (image-header n low few p holds inside)) in
-      let passes = ap (λ (c : SaidCheck). c .number) (image-examined n low few p holds inside) in
+      let count : field xs 16 5 ≡ n = ap (λ (f : Fields). f .n) (image-fields n low few p holds inside) in
+      let header = header-good xs (ap (λ (s : Answered Fields). s .why .number) (image-header n low few p holds inside)) in
+      let passes = ap (λ (c : Why). c .number) (image-examined n low few p holds inside) in
       rw count at (own-place xs row (record { header = header; wide = rw count wide; contents = rw count passes }) k (rw count node))
       ∙ row-looked n (unpacked xs) (examined-good n (unpacked xs) few passes .walkable) k node
       ∙ ap (λ (t : Tables). rowLooked (nodeOf n k (t .nodes))) (image-tables n low few p holds inside)
 
   pub look-image : readNodeOn (image n p) k (nodePlace 32 16 n k) row
-      ≡ looked (record { check = checked 0 0 0; clock = p .clock k; neighbors = setOf n (p .neighbors k); forming = setOf n (p .forming k) })
+      ≡ outcome (accepted (record { clock = record { 0 = p .clock k }; neighbors = setOf n (p .neighbors k); forming = setOf n (p .forming k) }))
       (rows n (λ v. heightWords (p .height k v)))
   unfolding nodeWords
   look-image = look-tables ∙ ap rowLooked (node-of n p k node)

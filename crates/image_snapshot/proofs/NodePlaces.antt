@@ -1,5 +1,4 @@
 -- One node at a saved place: accepted exactly where that node's record starts, so for at most one node; what is then read.
--- Assumes nothing.
 use Prim.Native.Nat.{ℕ, suc, _+_, _-_, _*_, _≤_, _<_}
 use native.Mathlib.Nat.{mul-le-mul-right, suc-mul}
 use native.Mathlib.Decide.{decLt}
@@ -12,13 +11,14 @@ use lib.ListN.{length}
 use Rattle.bits.specs.Bits.{field, unpacked}
 use Rattle.image.specs.Places.{nodePlace}
 use Rattle.image.specs.Widths.{heightWidth, nodeWidth}
-use Rattle.lent.specs.Check.{checked}
 use Rattle.protocol.specs.Network.{Node, isNode}
 use Rattle.basics.proofs.Tests.{Choice, yes!, no!, choice, and-left, and-right}
 use Rattle.protocol.proofs.NodeLaws.{node-passes}
 use Rattle.image_reading.specs.Examine.{examined}
 use Rattle.image_reading.specs.Header.{headerOf}
-use Rattle.image_snapshot.specs.ReadNode.{looked, refusedNode, nodeAt, nodePlaced, nodeExamined, nodeSized, nodeHeaded, readNodeOn}
+use Rattle.image_snapshot.specs.ReadNode.{nodePlaced, nodeExamined, nodeSized, nodeHeaded, readNodeOn}
+use Rattle.image_reader.specs.Record.{recordIn, unread}
+use Rattle.refusal.specs.Refusal.{why}
 use Rattle.image_snapshot.proofs.AcceptedLaws.{HeaderGood, header-good}
 
 -- ---- where node k of n starts
@@ -56,21 +56,21 @@ module _ (xs row : List ℕ) (ok : Readable xs row) (k : ℕ) where
 
   module _ (node : Node (field xs 16 5) k) where
     -- accepted where the record starts: header length + (k − 1)(64 + 96 n)
-    pub own-place : readNodeOn xs k (nodePlace 32 16 (field xs 16 5) k) row ≡ nodeAt (field xs 16 5) (unpacked xs) (nodePlace 32 16 (field xs 16 5) k)
+    pub own-place : readNodeOn xs k (nodePlace 32 16 (field xs 16 5) k) row ≡ recordIn (field xs 16 5) (unpacked xs) (nodePlace 32 16 (field xs 16 5) k)
     unfolding nodePlaced
     own-place =
         placed (nodePlace 32 16 (field xs 16 5) k)
         ∙ rw (node-passes (field xs 16 5) k node, eq-eqb (nodePlace 32 16 (field xs 16 5) k) (nodePlace 32 16 (field xs 16 5) k) refl)
 
     -- refused with 13 everywhere else
-    pub no-place : (place : ℕ) → (place ≡ nodePlace 32 16 (field xs 16 5) k → ⊥) → readNodeOn xs k place row ≡ looked (refusedNode (checked 13 0 0)) row
+    pub no-place : (place : ℕ) → (place ≡ nodePlace 32 16 (field xs 16 5) k → ⊥) → readNodeOn xs k place row ≡ unread (why 13 0 0) row
     unfolding nodePlaced
     no-place place d =
         placed place ∙ rw (node-passes (field xs 16 5) k node, ne-eqb place (nodePlace 32 16 (field xs 16 5) k) d)
 
     -- the place at which another node's record starts
     pub other-place : (j : ℕ) → Node (field xs 16 5) j → (j ≡ k → ⊥)
-        → readNodeOn xs k (nodePlace 32 16 (field xs 16 5) j) row ≡ looked (refusedNode (checked 13 0 0)) row
+        → readNodeOn xs k (nodePlace 32 16 (field xs 16 5) j) row ≡ unread (why 13 0 0) row
     other-place j a d = no-place (nodePlace 32 16 (field xs 16 5) j) (λ e. d (place-one 32 (field xs 16 5) j k a node e))
 
 -- ---- what an accepted call shows
@@ -80,9 +80,9 @@ pub record NodeGood (xs : List ℕ) (k place : ℕ) (row : List ℕ) : Type 0 wh
   pub node : Node (field xs 16 5) k
   pub place-is : place ≡ nodePlace 32 16 (field xs 16 5) k
 
-pub node-good : (xs : List ℕ) (k place : ℕ) (row : List ℕ) → readNodeOn xs k place row .said .check .number ≡ 0 → NodeGood xs k place row
+pub node-good : (xs : List ℕ) (k place : ℕ) (row : List ℕ) → readNodeOn xs k place row .said .why .number ≡ 0 → NodeGood xs k place row
 unfolding readNodeOn nodeHeaded nodeSized nodeExamined nodePlaced
-node-good xs k place row zero = go (choice (eqb (headerOf xs .number) 0)) zero
+node-good xs k place row zero = go (choice (eqb (headerOf xs .why .number) 0)) zero
   where
     n : ℕ
     n = field xs 16 5
@@ -91,7 +91,7 @@ node-good xs k place row zero = go (choice (eqb (headerOf xs .number) 0)) zero
     l = unpacked xs
 
     at : HeaderGood xs → length row ≡ n * 7 → examined 32 16 n l .number ≡ 0 → Choice (isNode n k) → Choice (eqb place (nodePlace 32 16 n k))
-        → nodePlaced 32 n l k place row .said .check .number ≡ 0 → NodeGood xs k place row
+        → nodePlaced 32 n l k place row .said .why .number ≡ 0 → NodeGood xs k place row
     at h w c (no! e) q z = let y : _≡_ {A = ℕ} 3 0 = rw e at z in absurd (omega arith)
     at h w c (yes! e) (no! q) z = let y : _≡_ {A = ℕ} 13 0 = rw (e, q) at z in absurd (omega arith)
     at h w c (yes! e) (yes! q) z = record {
@@ -101,26 +101,26 @@ node-good xs k place row zero = go (choice (eqb (headerOf xs .number) 0)) zero
     }
 
     exam : HeaderGood xs → length row ≡ n * 7 → Choice (eqb (examined 32 16 n l .number) 0)
-        → nodeExamined 32 n l k place row (examined 32 16 n l) .said .check .number ≡ 0 → NodeGood xs k place row
+        → nodeExamined 32 n l k place row (examined 32 16 n l) .said .why .number ≡ 0 → NodeGood xs k place row
     exam h w (no! e) z =
         let y : examined 32 16 n l .number ≡ 0 = rw e at z in
         absurd (eqb-false (examined 32 16 n l .number) 0 e y)
     exam h w (yes! e) z =
         at h w (eqb-true (examined 32 16 n l .number) 0 e) (choice (isNode n k)) (choice (eqb place (nodePlace 32 16 n k))) (rw e at z)
 
-    wide : HeaderGood xs → Choice (eqb (length row) (n * 7)) → nodeSized 32 n l k place row .said .check .number ≡ 0 → NodeGood xs k place row
+    wide : HeaderGood xs → Choice (eqb (length row) (n * 7)) → nodeSized 32 n l k place row .said .why .number ≡ 0 → NodeGood xs k place row
     wide h (no! e) z = let y : _≡_ {A = ℕ} 1 0 = rw e at z in absurd (omega arith)
     wide h (yes! e) z = exam h (eqb-true (length row) (n * 7) e) (choice (eqb (examined 32 16 n l .number) 0)) (rw e at z)
 
-    go : Choice (eqb (headerOf xs .number) 0) → nodeHeaded l k place row (headerOf xs) .said .check .number ≡ 0 → NodeGood xs k place row
-    go (no! e) z = absurd (eqb-false (headerOf xs .number) 0 e (rw e at z))
+    go : Choice (eqb (headerOf xs .why .number) 0) → nodeHeaded l k place row (headerOf xs) .said .why .number ≡ 0 → NodeGood xs k place row
+    go (no! e) z = absurd (eqb-false (headerOf xs .why .number) 0 e (rw e at z))
     go (yes! e) z =
-        let h = header-good xs (eqb-true (headerOf xs .number) 0 e) in
+        let h = header-good xs (eqb-true (headerOf xs .why .number) 0 e) in
         wide h (choice (eqb (length row) (n * 7))) (rw (h .is, h .header) at z)
 
 -- a place is accepted for at most one node of an image
-pub at-most-one : (xs : List ℕ) (j k place : ℕ) (row rows : List ℕ) → readNodeOn xs j place row .said .check .number ≡ 0
-    → readNodeOn xs k place rows .said .check .number ≡ 0 → j ≡ k
+pub at-most-one : (xs : List ℕ) (j k place : ℕ) (row rows : List ℕ) → readNodeOn xs j place row .said .why .number ≡ 0
+    → readNodeOn xs k place rows .said .why .number ≡ 0 → j ≡ k
 at-most-one xs j k place row rows a b =
     let g = node-good xs j place row a in
     let h = node-good xs k place rows b in

@@ -1,41 +1,34 @@
 -- A restore by what the header, the sizes and the checks answer: 10, 11, 1, 2, 12, or the tables of the image's records.
--- Assumes nothing.
 use Prim.Native.Nat.{ℕ, _≤_}
 use native.Mathlib.Omega.{arith}
 use mathlib.Core.Bool.{true, false}
-use mathlib.Core.List.{List, [], _∷_}
+use mathlib.Core.List.{List}
 use mathlib.Core.Path.{_≡_, sym, ap, _∙_}
-use borrow.Author.Tests.{ne-eqb}
-use denote.Enum.Declared.{tagOf}
-use types.Run.{OneOf, miss}
 use Rattle.bits.specs.Bits.{field, unpacked}
 use Rattle.image.specs.Places.{tablesIn}
-use Rattle.lent.specs.Check.{SaidCheck, checked}
-use Rattle.lent.specs.Fresh.{filled}
-use Rattle.image_reading.specs.Examine.{Walkable, saidExamined, examined}
-use Rattle.image_reading.specs.Header.{SaidHeader, saidHeader, headerOf}
-use Rattle.image_reading.specs.declared.Examined.{Examined}
-use Rattle.image_reading.specs.declared.Examined.the-variants.{Sound, Fault, BadEnd}
+use Rattle.image_reading.specs.Examine.{Walkable, examined}
+use Rattle.image_reading.specs.Header.{saidHeader, headerOf}
 use Rattle.image_reading.specs.declared.Fields.{Fields}
 use Rattle.image_reading.specs.declared.Header.{Header}
-use Rattle.image_reading.specs.declared.Header.the-variants.{Good, Short, Wrong}
-use Rattle.image_reading.proofs.Header as declared
+use Rattle.image_reading.specs.declared.Header.the-variants.{Good, Refused}
+use Rattle.lent.specs.Check.{saidCheck}
+use Rattle.lent.specs.declared.Checked.{Checked}
+use Rattle.lent.specs.declared.Checked.the-variants as checks
+use Rattle.refusal.proofs.RefusalLaws.{never-0}
+use Rattle.refusal.specs.declared.Refusal.{Refusal}
 use Rattle.tables.specs.Tables.{Tables, sized}
 use Rattle.image_snapshot.specs.Restore.{restoreExamined, restoreOf, restoreHeaded, restoreOn}
+use Rattle.refusal.specs.Outcome.{Answered, outcome}
+use Rattle.refusal.specs.Refusal.{why, whyOf}
+use Rattle.refusal.specs.declared.Why.{Why}
 use Rattle.image_snapshot.proofs.AcceptedLaws.{header-good, examined-good}
 
 -- ---- the header
 
--- one that `let .. else` turns away is not good
-pub refused : (h : Header) → OneOf (1 ∷ 2 ∷ []) (tagOf declared.the-type h) → saidHeader h .number ≡ 0 → ⊥
-refused (Good f) k z = miss (1 ∷ 2 ∷ []) 0 tt k
-refused Short k z = omega arith
-refused Wrong k z = omega arith
-
-pub headed-refused : (xs : List ℕ) (t : Tables) {s : SaidHeader} → s ≡ headerOf xs → (s .number ≡ 0 → ⊥)
-    → filled (checked (s .number) 0 0) t ≡ restoreOn xs t
+pub headed-refused : (xs : List ℕ) (t : Tables) {h : Header} → saidHeader h ≡ headerOf xs → {r : Refusal} → h ≡ Refused r
+    → outcome (whyOf r) t ≡ restoreOn xs t
 unfolding restoreOn restoreHeaded
-headed-refused xs t {s} e d = rw (← e, ne-eqb (s .number) 0 d)
+headed-refused xs t e {r} q = rw (← e, q, never-0 r)
 
 pub headed-good : (xs : List ℕ) (t : Tables) {h : Header} → saidHeader h ≡ headerOf xs → {f : Fields} → h ≡ Good f
     → restoreOf (f .n) (unpacked xs) t ≡ restoreOn xs t
@@ -50,33 +43,29 @@ pub record GoodFields (f : Fields) : Type 0 where
 pub good-fields : (xs : List ℕ) {h : Header} → saidHeader h ≡ headerOf xs → {f : Fields} → h ≡ Good f → GoodFields f
 good-fields xs e {f} q =
     let says : saidHeader (Good f) ≡ headerOf xs = ap saidHeader (sym q) ∙ e in
-    let g = header-good xs (sym (ap (λ (s : SaidHeader). s .number) says)) in
-    let nodes : f .n ≡ field xs 16 5 = ap (λ (s : SaidHeader). s .n) (says ∙ g .is) in
-    record { length-is = ap (λ (s : SaidHeader). s .length) (says ∙ g .is) ∙ g .header; low = omega arith; few = omega arith }
+    let g = header-good xs (sym (ap (λ (s : Answered Fields). s .why .number) says)) in
+    let nodes : f .n ≡ field xs 16 5 = ap (λ (s : Answered Fields). s .value .n) (says ∙ g .is) in
+    record { length-is = ap (λ (s : Answered Fields). s .value .length) (says ∙ g .is) ∙ g .header; low = omega arith; few = omega arith }
 
 -- ---- behind it
 
-module _ (n : ℕ) (l : List ℕ) {r : Examined} (answers : saidExamined r ≡ examined 32 16 n l) where
-  said : {x : Examined} → r ≡ x → examined 32 16 n l ≡ saidExamined x
-  said h = sym answers ∙ ap saidExamined h
+module _ (n : ℕ) (l : List ℕ) {r : Checked} (answers : saidCheck r ≡ examined 32 16 n l) where
+  said : {x : Checked} → r ≡ x → examined 32 16 n l ≡ saidCheck x
+  said h = sym answers ∙ ap saidCheck h
 
   -- nothing is at fault: all stands inside the image
-  pub sound-walks : n ≤ 16 → r ≡ Sound → Walkable 32 16 n l
-  sound-walks few h = examined-good n l few (ap (λ (c : SaidCheck). c .number) (said h)) .walkable
+  pub sound-walks : n ≤ 16 → r ≡ checks.Sound → Walkable 32 16 n l
+  sound-walks few h = examined-good n l few (ap (λ (c : Why). c .number) (said h)) .walkable
 
   module _ (t : Tables) (fit : sized n t ≡ true) where
-    pub of-fault : {u v : ℕ} → r ≡ Fault u v → filled (checked 2 u v) t ≡ restoreOf n l t
+    pub of-refused : {why : Refusal} → r ≡ checks.Refused why → outcome (whyOf why) t ≡ restoreOf n l t
     unfolding restoreOf restoreExamined
-    of-fault h = rw (fit, said h)
+    of-refused {why} h = rw (fit, said h, never-0 why)
 
-    pub of-end : r ≡ BadEnd → filled (checked 12 0 0) t ≡ restoreOf n l t
-    unfolding restoreOf restoreExamined
-    of-end h = rw (fit, said h)
-
-    pub of-done : r ≡ Sound → filled (checked 0 0 0) (tablesIn 32 16 n l) ≡ restoreOf n l t
+    pub of-done : r ≡ checks.Sound → outcome (why 0 0 0) (tablesIn 32 16 n l) ≡ restoreOf n l t
     unfolding restoreOf restoreExamined
     of-done h = rw (fit, said h)
 
-pub of-sizes : (n : ℕ) (l : List ℕ) (t : Tables) → sized n t ≡ false → filled (checked 1 0 0) t ≡ restoreOf n l t
+pub of-sizes : (n : ℕ) (l : List ℕ) (t : Tables) → sized n t ≡ false → outcome (why 1 0 0) t ≡ restoreOf n l t
 unfolding restoreOf
 of-sizes n l t e = rw e

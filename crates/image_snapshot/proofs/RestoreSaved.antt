@@ -4,8 +4,7 @@ use Prim.Native.Nat.{ℕ, _≤_}
 use mathlib.Core.Bool.{true}
 use mathlib.Core.Path.{_≡_, ap, _∙_}
 use Rattle.image.specs.Image.{image}
-use Rattle.lent.specs.Check.{checked, checkOn}
-use Rattle.lent.specs.Fresh.{filled}
+use Rattle.lent.specs.Check.{checkOn}
 use Rattle.lent.proofs.CheckLaws.{sound-sized}
 use Rattle.lent.proofs.SoundLoads.{sound-loads, load-inside}
 use Rattle.lent.proofs.SoundTables.{Words, sound-fits}
@@ -15,18 +14,20 @@ use Rattle.tables.specs.Load.{load, tablesOf}
 use Rattle.tables.specs.Tables.{Tables, sized}
 use Rattle.tables.proofs.TablesLaws.{tables-back}
 use Rattle.image_snapshot.specs.Restore.{restoreExamined, restoreOf, restoreHeaded, restoreOn}
+use Rattle.refusal.specs.Outcome.{outcome}
+use Rattle.refusal.specs.Refusal.{why}
 use Rattle.image_snapshot.proofs.ImageLaws.{image-header, image-tables, image-examined}
 
 pub restore-image : (n : ℕ) → 1 ≤ n → n ≤ 16 → (p : Network) → sound n p ≡ true → restrict n p ≡ p → (t : Tables) → sized n t ≡ true
-    → restoreOn (image n p) t ≡ filled (checked 0 0 0) (tablesOf n p)
+    → restoreOn (image n p) t ≡ outcome (why 0 0 0) (tablesOf n p)
 unfolding restoreOn restoreHeaded restoreOf restoreExamined
 restore-image n low few p holds inside t fit =
     rw (image-header n low few p holds inside, fit, image-examined n low few p holds inside, image-tables n low few p holds inside)
 
 pub restore-saved : (n : ℕ) (t : Tables) → Words t → checkOn n t .number ≡ 0 → (u : Tables) → sized n u ≡ true
-    → restoreOn (image n (load n t)) u ≡ filled (checked 0 0 0) t
+    → restoreOn (image n (load n t)) u ≡ outcome (why 0 0 0) t
 restore-saved n t words passes u fit =
     let size = sound-sized n t passes in
     let whole = sound-fits n t words passes in
     restore-image n (size .low) (size .few) (load n t) (sound-loads n t words passes) (load-inside n t whole) u fit
-    ∙ ap (filled (checked 0 0 0)) (tables-back n t whole)
+    ∙ ap (outcome (why 0 0 0)) (tables-back n t whole)

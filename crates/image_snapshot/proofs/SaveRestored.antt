@@ -28,9 +28,10 @@ use Rattle.tables.proofs.Back.{words-length}
 use Rattle.tables.proofs.TablesLaws.{tables-back}
 use Rattle.image_writing.proofs.WordsLaws.{message-words}
 use Rattle.image_snapshot.specs.Restore.{restoreOn}
-use Rattle.image_snapshot.specs.Save.{put, saveChecked, saveOn}
+use Rattle.image_snapshot.specs.Save.{saveChecked, saveOn}
 use Rattle.image_snapshot.proofs.AcceptedLaws.{HeaderGood, ExaminedGood, restore-good}
 use Rattle.image_reading.proofs.ShapeLaws.{records-shaped, records-words}
+use Rattle.refusal.specs.Outcome.{putFront}
 
 -- a network's records
 network-shaped : (n : ℕ) (p : Network) → Fits n p → Shaped n (recordsOf n p)
@@ -102,7 +103,7 @@ module _ (xs : List ℕ) (bytes : Below 256 xs) (head : HeaderGood xs) (good : E
       ∙ sym (image-of-read 1 32 16 (field xs 16 5) (omega arith) (omega arith) (omega arith) xs accepted)
 
 pub save-restored : (xs : List ℕ) → Below 256 xs → (t : Tables) → restoreOn xs t .said .number ≡ 0
-    → (out : List ℕ) → saveOn (field xs 16 5) (restoreOn xs t .after) out ≡ put xs out
+    → (out : List ℕ) → saveOn (field xs 16 5) (restoreOn xs t .after) out ≡ putFront xs out
 unfolding saveOn saveChecked
 save-restored xs bytes t zero out =
     let g = restore-good xs t zero in

@@ -1,5 +1,10 @@
 -- What a call says and what it leaves, for every call alike.
 -- A refused call leaves what was lent as it was: each call's own definition says so.
+use Prim.Native.Nat.{ℕ}
+use mathlib.Core.Bool.{cond}
+use mathlib.Core.List.{List, _++_}
+use lib.Dec.{leb}
+use lib.ListN.{length, drop}
 use Rattle.refusal.specs.Refusal.{why}
 use Rattle.refusal.specs.declared.Why.{Why}
 
@@ -21,3 +26,8 @@ accepted v = record { why = why 0 0 0; value = v }
 
 abbrev pub refusedWith : {A : Type 0} → A → Why → Answered A
 refusedWith none w = record { why = w; value = none }
+
+-- bytes to the front of lent bytes, and how many; those behind them stay. Where they do not fit: 14
+unfoldable pub putFront : List ℕ → List ℕ → Outcome (Answered ℕ) (List ℕ)
+putFront b out =
+    cond (leb (length b) (length out)) (outcome (accepted (length b)) (b ++ drop (length b) out)) (outcome (refusedWith 0 (why 14 0 0)) out)

@@ -1,7 +1,6 @@
 -- `image_snapshot::save` meets its contract: refused with 1 or 2 by the check, or the save of checked tables.
--- Assumes nothing.
 use borrow.Author.Needs.{needs}
-use Rattle.image_snapshot.proofs.SaveLaws.{passes, save-sizes, save-fault, save-sound}
+use Rattle.image_snapshot.proofs.SaveLaws.{passes, save-refused, save-sound}
 use Rattle.image_snapshot.proofs.save.Statement.{statement}
 use Rattle.image_snapshot.proofs.save.Tie as tie
 
@@ -14,11 +13,8 @@ enum-told c = search needs
 checked-requires : tie.Need-checked-requires
 checked-requires c κs = passes _ _ (c .before .before .before .check .ensures) (c .before .enum-told .given .1)
 
-enum-told-2 : tie.Need-enum-told-2
-enum-told-2 c = search needs
-
-enum-known-u : tie.Need-enum-known-u
-enum-known-u c = search needs
+enum-known-why : tie.Need-enum-known-why
+enum-known-why c = search needs
 
 same-length : tie.Need-same-length
 same-length c = search needs
@@ -29,10 +25,7 @@ returns c =
     rw (save-sound _ _ (m .before .before .check .ensures) _ (m .enum-told .given .1)) at (c .before .before .checked .ensures)
 
 returns-2 : tie.Need-returns-2
-returns-2 c = save-sizes _ _ (c .before .before .check .ensures) _ (c .enum-told2 .given .1)
-
-returns-3 : tie.Need-returns-3
-returns-3 c = save-fault _ _ (c .before .before .before .check .ensures) _ (c .before .u .given .1)
+returns-2 c = save-refused _ _ (c .before .before .before .check .ensures) _ (c .before .why .given .1)
 
 pub save-spec : {M : Type 1} → statement M
 save-spec =
@@ -41,9 +34,7 @@ save-spec =
     check-requires
     enum-told
     checked-requires
-    enum-told-2
-    enum-known-u
+    enum-known-why
     same-length
     returns
-    returns-2
-    returns-3)
+    returns-2)

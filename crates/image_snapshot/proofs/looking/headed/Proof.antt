@@ -1,7 +1,6 @@
 -- `image_snapshot::looking::headed` meets its contract: 1 for the row, 2 or 12 by the checks, or the node at its place.
--- Assumes nothing.
 use mathlib.Core.Path.{_∙_}
-use Rattle.image_snapshot.proofs.LookLaws.{node-sizes, node-fault, node-end, node-sound}
+use Rattle.image_snapshot.proofs.LookLaws.{node-sizes, node-faulty, node-sound}
 use Rattle.image_snapshot.proofs.RestoreLaws.{sound-walks}
 use borrow.Author.Needs.{needs}
 use Rattle.image_snapshot.proofs.looking.headed.Statement.{statement}
@@ -28,11 +27,8 @@ placed-requires c κs =
     let wide = c .before .before .before .before .if1 .left in
     (s .pre .0, s .pre .2, wide, sound-walks _ _ (c .before .before .before .examine .ensures) (s .pre .2) (c .before .enum-told .given .1))
 
-enum-known-u : tie.Need-enum-known-u
-enum-known-u c = search needs
-
-enum-told-2 : tie.Need-enum-told-2
-enum-told-2 c = search needs
+enum-known-why : tie.Need-enum-known-why
+enum-known-why c = search needs
 
 same-length : tie.Need-same-length
 same-length c = search needs
@@ -45,10 +41,9 @@ returns-2 c =
     node-sound _ _ _ _ _ _ (e .before .if1 .left) (e .examine .ensures) (told .enum-told .given .1))
 
 returns-3 : tie.Need-returns-3
-returns-3 c = node-fault _ _ _ _ _ _ (c .before .before .before .before .if1 .left) (c .before .before .before .examine .ensures) (c .before .u .given .1)
-
-returns-4 : tie.Need-returns-4
-returns-4 c = node-end _ _ _ _ _ _ (c .before .before .before .if1 .left) (c .before .before .examine .ensures) (c .enum-told2 .given .1)
+returns-3 c =
+    let e = c .before .before .before in
+    node-faulty _ _ _ _ _ _ (e .before .if1 .left) (e .examine .ensures) (c .before .why .given .1)
 
 pub headed-spec : {M : Type 1} → statement M
 headed-spec =
@@ -60,9 +55,7 @@ headed-spec =
     examine-requires
     enum-told
     placed-requires
-    enum-known-u
-    enum-told-2
+    enum-known-why
     same-length
     returns-2
-    returns-3
-    returns-4)
+    returns-3)

@@ -1,5 +1,4 @@
 -- `image_snapshot::looking::start` meets its contract: with n at most 16 the sum fits.
--- Assumes nothing.
 use native.Mathlib.Omega.{arith}
 use mathlib.Core.Path.{refl}
 use Rattle.image.specs.Places.{nodePlace}

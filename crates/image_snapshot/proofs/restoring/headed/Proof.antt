@@ -1,12 +1,11 @@
 -- `image_snapshot::restoring::headed` meets its contract: 1, 2 or 12, or the tables of the image.
--- Assumes nothing.
 use mathlib.Core.Path.{sym, ap, _∙_}
 use borrow.Author.Tests.{not-true, not-false}
 use Rattle.lent.proofs.CheckLaws.{sized-is}
-use Rattle.lent.specs.Check.{checked}
-use Rattle.lent.specs.Fresh.{filled}
-use Rattle.image_snapshot.proofs.RestoreLaws.{sound-walks, of-sizes, of-fault, of-end, of-done}
+use Rattle.image_snapshot.proofs.RestoreLaws.{sound-walks, of-sizes, of-refused, of-done}
 use borrow.Author.Needs.{needs}
+use Rattle.refusal.specs.Outcome.{outcome}
+use Rattle.refusal.specs.Refusal.{why}
 use Rattle.image_snapshot.proofs.restoring.headed.Statement.{statement}
 use Rattle.image_snapshot.proofs.restoring.headed.Tie as tie
 
@@ -35,11 +34,8 @@ read-tables-requires c κs =
     let few = c .before .before .before .before .before .before .before .before .before .before .before .before .pre .1 in
     (sized-is _ _ fit, sound-walks _ _ (e .examine .ensures) few (c .before .before .enum-told .given .1))
 
-enum-known-u : tie.Need-enum-known-u
-enum-known-u c = search needs
-
-enum-told-2 : tie.Need-enum-told-2
-enum-told-2 c = search needs
+enum-known-why : tie.Need-enum-known-why
+enum-known-why c = search needs
 
 same-length-3 : tie.Need-same-length-3
 same-length-3 c = search needs
@@ -51,7 +47,7 @@ returns-2 : tie.Need-returns-2
 returns-2 c =
     let e = c .before .before .before .before .before .before .before .before .before in
     let fit = sym (e .before .before .is-sized .ensures) ∙ not-false _ (e .before .if1 .left) in
-    ap (filled (checked 0 0 0)) (c .before .before .before .before .read-tables .ensures)
+    ap (outcome (why 0 0 0)) (c .before .before .before .before .read-tables .ensures)
     ∙ of-done _ _ (e .examine .ensures) _ fit (c .before .before .before .before .before .before .before .enum-told .given .1)
 
 same-length-5 : tie.Need-same-length-5
@@ -64,19 +60,7 @@ returns-3 : tie.Need-returns-3
 returns-3 c =
     let e = c .before .before .before in
     let fit = sym (e .before .before .is-sized .ensures) ∙ not-false _ (e .before .if1 .left) in
-    of-fault _ _ (e .examine .ensures) _ fit (c .before .u .given .1)
-
-same-length-7 : tie.Need-same-length-7
-same-length-7 c = search needs
-
-same-length-8 : tie.Need-same-length-8
-same-length-8 c = search needs
-
-returns-4 : tie.Need-returns-4
-returns-4 c =
-    let e = c .before .before in
-    let fit = sym (e .before .before .is-sized .ensures) ∙ not-false _ (e .before .if1 .left) in
-    of-end _ _ (e .examine .ensures) _ fit (c .enum-told2 .given .1)
+    of-refused _ _ (e .examine .ensures) _ fit (c .before .why .given .1)
 
 pub headed-spec : {M : Type 1} → statement M
 headed-spec =
@@ -89,14 +73,10 @@ headed-spec =
     examine-requires
     enum-told
     read-tables-requires
-    enum-known-u
-    enum-told-2
+    enum-known-why
     same-length-3
     same-length-4
     returns-2
     same-length-5
     same-length-6
-    returns-3
-    same-length-7
-    same-length-8
-    returns-4)
+    returns-3)

@@ -1,5 +1,4 @@
 -- `image_snapshot::saving::checked` meets its contract: 14, or the image of tables that fit.
--- Assumes nothing.
 use native.Mathlib.Omega.{arith}
 use borrow.Author.Needs.{needs}
 use Rattle.image_snapshot.proofs.SaveLaws.{fits, put-no-room, put-room}
