@@ -4,9 +4,13 @@ use Prim.Native.Nat.{ℕ, _+_, _≤_}
 use mathlib.Core.List.{List}
 use mathlib.Core.Path.{_≡_, refl, sym, ap, _∙_}
 use lib.ListN.{length}
-use Rattle.commands.specs.Commands.{saidMalformed, saidCommand, commandOf}
+use Rattle.commands.specs.Commands.{saidCommand, commandOf}
 use Rattle.commands.specs.declared.Command.{Command}
-use Rattle.commands.specs.declared.Command.the-variants.{Up, Down, Receive, Malformed}
+use Rattle.commands.specs.declared.Command.the-variants.{Up, Down, Receive, Refused}
+use Rattle.refusal.proofs.RefusalLaws.{never-0}
+use Rattle.refusal.specs.Outcome.{Outcome, outcome}
+use Rattle.refusal.specs.Refusal.{whyOf}
+use Rattle.refusal.specs.declared.Refusal.{Refusal}
 use Rattle.election.specs.StepOn.{Outcome, outcome, stepOn}
 use Rattle.protocol.specs.Answer.{Said}
 use Rattle.protocol.specs.Step.{up, down, receive}
@@ -30,20 +34,20 @@ module _ (n : ℕ) (t : Tables) (k : ℕ) (l : List ℕ) {c : Command} (parsed :
 
   pub line-up : {u v : ℕ} → c ≡ Up u v → {s : Said} {after : Tables} → outcome s after ≡ stepOn n (up u v) t → LineResult n t k l (saidLine k s) after
   unfolding byEvent commandLineOn afterCommandOn
-  line-up e q = of-command e (ap (λ (o : Outcome). saidLine k (o .said)) q) (ap (λ (o : Outcome). o .after) q)
+  line-up e q = of-command e (ap (λ (o : Outcome Said Tables). saidLine k (o .said)) q) (ap (λ (o : Outcome Said Tables). o .after) q)
 
   pub line-down : {u v : ℕ} → c ≡ Down u v → {s : Said} {after : Tables} → outcome s after ≡ stepOn n (down u v) t → LineResult n t k l (saidLine k s) after
   unfolding byEvent commandLineOn afterCommandOn
-  line-down e q = of-command e (ap (λ (o : Outcome). saidLine k (o .said)) q) (ap (λ (o : Outcome). o .after) q)
+  line-down e q = of-command e (ap (λ (o : Outcome Said Tables). saidLine k (o .said)) q) (ap (λ (o : Outcome Said Tables). o .after) q)
 
   pub line-receive : {u v : ℕ} → c ≡ Receive u v → {s : Said} {after : Tables} → outcome s after ≡ stepOn n (receive u v) t
       → LineResult n t k l (saidLine k s) after
   unfolding byEvent commandLineOn afterCommandOn
-  line-receive e q = of-command e (ap (λ (o : Outcome). saidLine k (o .said)) q) (ap (λ (o : Outcome). o .after) q)
+  line-receive e q = of-command e (ap (λ (o : Outcome Said Tables). saidLine k (o .said)) q) (ap (λ (o : Outcome Said Tables). o .after) q)
 
-  pub line-malformed : c ≡ Malformed → LineResult n t k l (eventLine k (saidMalformed .number) 45 0) t
+  pub line-refused : {r : Refusal} → c ≡ Refused r → LineResult n t k l (saidLine k (saidRefused (whyOf r))) t
   unfolding byEvent commandLineOn afterCommandOn
-  line-malformed e = of-command e refl refl
+  line-refused {r} e = of-command e (rw (never-0 r)) (rw (never-0 r))
 
 -- the line has been poured
 pub line-done : {n : ℕ} {t : Tables} {k : ℕ} {l text : List ℕ} {after : Tables} → LineResult n t k l text after

@@ -34,19 +34,19 @@ module _ {A B : Type 0} (R : A → B → Type 0) where
   by-event : {f : Event → A} {g : Event → B} {a : A} {b : B} → ((e : Event) → R (f e) (g e)) → R a b
       → (c : SaidCommand) → R (byEvent f a c) (byEvent g b c)
   unfolding byEvent
-  by-event each other c = either (eqb (c .number) 0) (each (eventNamed c)) other
+  by-event each other c = either (eqb (c .why .number) 0) (each (eventNamed c)) other
 
 module _ (n : ℕ) (low : 1 ≤ n) (few : n ≤ 16) where
   module _ (s : State) (good : Good n s) where
     line-same : (k : ℕ) (c : SaidCommand) → commandLineOn n (tablesOf n (s .network)) k c ≡ commandLine n (s .network) k c
     unfolding commandLineOn commandLine
     line-same k c =
-        by-event (λ (x y : List ℕ). x ≡ y) (λ (e : Event). ap (λ (o : Outcome). saidLine k (o .said)) (own-call n low few s good e)) refl c
+        by-event (λ (x y : List ℕ). x ≡ y) (λ (e : Event). ap (λ (o : Outcome Said Tables). saidLine k (o .said)) (own-call n low few s good e)) refl c
 
     after-same : (c : SaidCommand) → afterCommandOn n (tablesOf n (s .network)) c ≡ tablesOf n (afterCommand n (s .network) c)
     unfolding afterCommandOn afterCommand
     after-same =
-        by-event (λ (t : Tables) (p : Network). t ≡ tablesOf n p) (λ (e : Event). ap (λ (o : Outcome). o .after) (own-call n low few s good e)) refl
+        by-event (λ (t : Tables) (p : Network). t ≡ tablesOf n p) (λ (e : Event). ap (λ (o : Outcome Said Tables). o .after) (own-call n low few s good e)) refl
 
     state-network : (c : SaidCommand) → stateAfter n s c .network ≡ afterCommand n (s .network) c
     unfolding stateAfter advance afterCommand

@@ -24,7 +24,9 @@ use Rattle.text.specs.Text.{poured}
 use Rattle.text.proofs.TextLaws.{poured-all}
 use Rattle.bench_run.specs.Listing.{eventHead, stationHead, badPlot, eventLines, afterLines, stationLines, plotListing, headed, listing}
 use Rattle.bench_run.specs.OnTables.{eventLinesOn, afterLinesOn, stationLineOn, stationLinesOn}
-use Rattle.bench_run.specs.Run.{ran, listed, runOn}
+use Rattle.refusal.specs.Outcome.{accepted, outcome, putFront, refusedWith}
+use Rattle.refusal.specs.Refusal.{why}
+use Rattle.bench_run.specs.Run.{runOn}
 use Rattle.bench_run.proofs.Listings.{events-same, stations-after}
 use Rattle.bench_run.proofs.PourLaws.{Poured, then}
 
@@ -109,13 +111,13 @@ module _ (input : List ℕ) where
 -- ---- the room
 
 pub run-no-room : (input out : List ℕ) {size : ℕ} → size ≡ length (listing input) → length out < size
-    → ran (record { number = 14; size = 0 }) out ≡ runOn input out
-unfolding runOn listed
+    → outcome (refusedWith 0 (why 14 0 0)) out ≡ runOn input out
+unfolding runOn putFront
 run-no-room input out e h = rw (lt-leb (length (listing input)) (length out) (rw e at h))
 
 pub run-room : (input out after : List ℕ) {size : ℕ} → size ≡ length (listing input) → size ≤ length out → after ≡ poured out 0 (listing input)
-    → ran (record { number = 0; size = size }) after ≡ runOn input out
-unfolding runOn listed
+    → outcome (accepted size) after ≡ runOn input out
+unfolding runOn putFront
 run-room input out after e h b = rw (e, b, poured-all out (listing input) (rw e at h), le-leb (length (listing input)) (length out) (rw e at h))
 
 -- ---- sizes

@@ -73,14 +73,14 @@ station-le u leader clock =
     )
 
 -- the line of what is said
-pub said-line : (k : ℕ) (s : Said) {code letter sent : ℕ} → code ≡ s .number → letter ≡ s .rule → sent ≡ ones (s .sentTo)
+pub said-line : (k : ℕ) (s : Said) {code letter sent : ℕ} → code ≡ s .why .number → letter ≡ s .value .rule → sent ≡ ones (s .value .sentTo)
     → eventLine k code letter sent ≡ saidLine k s
 unfolding saidLine
 said-line k s a b d = rw (a, b, d)
 
 pub said-le : (k : ℕ) (s : Said) → length (saidLine k s) ≤ 35
 unfolding saidLine
-said-le k s = event-le k (s .number) (s .rule) (ones (s .sentTo))
+said-le k s = event-le k (s .why .number) (s .value .rule) (ones (s .value .sentTo))
 
 -- a text of at most m bytes, under its own name
 pub finish : {out after : List ℕ} {at behind : ℕ} {text line : List ℕ} → Poured out at text after behind → text ≡ line → (m : ℕ) → length line ≤ m

@@ -6,8 +6,9 @@ use mathlib.Core.List.{List, [], _∷_, _++_}
 use lib.Count.{ones}
 use lib.Dec.{eqb, leb}
 use lib.ListN.{length}
+use Rattle.basics.specs.Functions.{afterAll}
 use Rattle.commands.specs.Commands.{SaidCommand, linesOf, commandOf, headOf}
-use Rattle.protocol.specs.Answer.{Said}
+use Rattle.protocol.specs.Answer.{Said, saidRefused}
 use Rattle.protocol.specs.Network.{Network, fresh, own}
 use Rattle.protocol.specs.Refusal.{answer, next}
 use Rattle.protocol.specs.Step.{Event, up, down, receive}
@@ -34,22 +35,22 @@ unfoldable pub eventLine : ℕ → ℕ → ℕ → ℕ → List ℕ
 eventLine k code letter sent = decimal k ++ (32 ∷ (decimal code ++ (32 ∷ letter ∷ 32 ∷ (decimal sent ++ (10 ∷ [])))))
 
 unfoldable pub saidLine : ℕ → Said → List ℕ
-saidLine k s = eventLine k (s .number) (s .rule) (ones (s .sentTo))
+saidLine k s = eventLine k (s .why .number) (s .value .rule) (ones (s .value .sentTo))
 
 -- the event that a line's letter and numbers name: U, D, or M (M u v is a receipt at v from u; a line that names an event has no other letter:
 -- `commands`, proofs/Said.antt)
 abbrev pub eventNamed : SaidCommand → Event
 eventNamed c =
-    cond (eqb (c .letter) 85) (up (c .first) (c .second))
-    (cond (eqb (c .letter) 68) (down (c .first) (c .second)) (receive (c .first) (c .second)))
+    cond (eqb (c .value .letter) 85) (up (c .value .first) (c .value .second))
+    (cond (eqb (c .value .letter) 68) (down (c .value .first) (c .value .second)) (receive (c .value .first) (c .value .second)))
 
 -- `act` on the event that a line names, `other` for a malformed one
 unfoldable pub byEvent : {A : Type 0} → (Event → A) → A → SaidCommand → A
-byEvent act other c = cond (eqb (c .number) 0) (act (eventNamed c)) other
+byEvent act other c = cond (eqb (c .why .number) 0) (act (eventNamed c)) other
 
 -- what a command prints, as line k, and the network after it; a malformed line prints its number and does nothing
 unfoldable pub commandLine : ℕ → Network → ℕ → SaidCommand → List ℕ
-commandLine n p k c = byEvent (λ e. saidLine k (answer n p e)) (eventLine k (c .number) 45 0) c
+commandLine n p k c = byEvent (λ e. saidLine k (answer n p e)) (saidLine k (saidRefused (c .why))) c
 
 unfoldable pub afterCommand : ℕ → Network → SaidCommand → Network
 afterCommand n p c = byEvent (next n p) p c
@@ -58,9 +59,8 @@ unfoldable pub eventLines : ℕ → Network → ℕ → List (List ℕ) → List
 eventLines n p k [] = []
 eventLines n p k (l ∷ ls) = commandLine n p k (commandOf l) ++ eventLines n (afterCommand n p (commandOf l)) (suc k) ls
 
-unfoldable pub afterLines : ℕ → Network → List (List ℕ) → Network
-afterLines n p [] = p
-afterLines n p (l ∷ ls) = afterLines n (afterCommand n p (commandOf l)) ls
+abbrev pub afterLines : ℕ → Network → List (List ℕ) → Network
+afterLines n p ls = afterAll (λ q l. afterCommand n q (commandOf l)) p ls
 
 -- ---- station lines: number, its own height's leader, its clock
 

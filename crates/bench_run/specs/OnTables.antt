@@ -2,6 +2,8 @@
 -- Definitions for the proof: nothing here has to be believed.
 use Prim.Native.Nat.{ℕ, suc}
 use mathlib.Core.List.{List, [], _∷_, _++_}
+use Rattle.basics.specs.Functions.{afterAll}
+use Rattle.protocol.specs.Answer.{saidRefused}
 use Rattle.commands.specs.Commands.{SaidCommand, commandOf}
 use Rattle.election.specs.StepOn.{stepOn}
 use Rattle.tables.specs.Load.{clockAt, heightsAt}
@@ -10,7 +12,7 @@ use Rattle.tables.specs.Tables.{Tables}
 use Rattle.bench_run.specs.Listing.{eventLine, saidLine, byEvent, stationLine}
 
 unfoldable pub commandLineOn : ℕ → Tables → ℕ → SaidCommand → List ℕ
-commandLineOn n t k c = byEvent (λ e. saidLine k (stepOn n e t .said)) (eventLine k (c .number) 45 0) c
+commandLineOn n t k c = byEvent (λ e. saidLine k (stepOn n e t .said)) (saidLine k (saidRefused (c .why))) c
 
 unfoldable pub afterCommandOn : ℕ → Tables → SaidCommand → Tables
 afterCommandOn n t c = byEvent (λ e. stepOn n e t .after) t c
@@ -19,9 +21,8 @@ unfoldable pub eventLinesOn : ℕ → Tables → ℕ → List (List ℕ) → Lis
 eventLinesOn n t k [] = []
 eventLinesOn n t k (l ∷ ls) = commandLineOn n t k (commandOf l) ++ eventLinesOn n (afterCommandOn n t (commandOf l)) (suc k) ls
 
-unfoldable pub afterLinesOn : ℕ → Tables → List (List ℕ) → Tables
-afterLinesOn n t [] = t
-afterLinesOn n t (l ∷ ls) = afterLinesOn n (afterCommandOn n t (commandOf l)) ls
+abbrev pub afterLinesOn : ℕ → Tables → List (List ℕ) → Tables
+afterLinesOn n t ls = afterAll (λ u l. afterCommandOn n u (commandOf l)) t ls
 
 unfoldable pub stationLineOn : ℕ → Tables → ℕ → List ℕ
 stationLineOn n t u = stationLine u (heightsAt n t u u .pair .lid) (clockAt n t u)

@@ -8,6 +8,7 @@ ghost use Rattle.commands.specs.Commands.{linesOf, commandOf};
 ghost use Rattle.tables.specs.Tables.{atEntry, atExit};
 ghost use Rattle.text.specs.Text.{poured};
 use commands::Command;
+use protocol::Answer;
 
 // Line k, at a place of the output.
 fn line(
@@ -37,7 +38,7 @@ fn line(
             let answer = election::receive(n, u, v, nodes, channels);
             super::lines::put_answer(out, at, k, answer)
         }
-        Command::Malformed => super::lines::put_event(out, at, k, 15, b'-', 0),
+        Command::Refused(why) => super::lines::put_answer(out, at, k, Answer::Refused(why)),
     }
 }
 

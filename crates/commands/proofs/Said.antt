@@ -1,28 +1,28 @@
 -- `saidCommand` is injective: every letter and number of a command is in what it says. And what an event line says, some command says.
--- Assumes nothing.
 use Prim.Native.Nat.{ℕ}
 use mathlib.Core.Bool.{Bool, true, false, cond, _&&_}
 use mathlib.Core.List.{List}
 use mathlib.Core.Path.{_≡_, refl, sym, ap, _∙_}
 use lib.Dec.{eqb, ltb}
 use lib.ListN.{getD}
+use Rattle.refusal.proofs.RefusalLaws.{reasonFrom, reason-back}
 use Rattle.commands.specs.Commands.{SaidCommand, saidEvent, saidMalformed, saidCommand, none, named, commandOf}
 use Rattle.commands.specs.declared.Command.{Command}
-use Rattle.commands.specs.declared.Command.the-variants.{Up, Down, Receive, Malformed}
+use Rattle.commands.specs.declared.Command.the-variants.{Up, Down, Receive, Refused}
 
 -- ---- the command from what it says
 
 commandFrom : SaidCommand → Command
 commandFrom s =
-    cond (eqb (s .letter) 85) (Up (s .first) (s .second)) (cond (eqb (s .letter) 68) (Down (s .first) (s .second))
-    (cond (eqb (s .letter) 77) (Receive (s .first) (s .second)) Malformed))
+    cond (eqb (s .value .letter) 85) (Up (s .value .first) (s .value .second)) (cond (eqb (s .value .letter) 68) (Down (s .value .first) (s .value .second))
+    (cond (eqb (s .value .letter) 77) (Receive (s .value .first) (s .value .second)) (Refused (reasonFrom (s .why)))))
 
 command-back : (c : Command) → commandFrom (saidCommand c) ≡ c
 unfolding commandFrom
 command-back (Up u v) = refl
 command-back (Down u v) = refl
 command-back (Receive u v) = refl
-command-back Malformed = refl
+command-back (Refused r) = ap Refused (reason-back r)
 
 pub said-command-injective : (c d : Command) → saidCommand c ≡ saidCommand d → c ≡ d
 said-command-injective c d e = sym (command-back c) ∙ (ap commandFrom e ∙ command-back d)

@@ -5,8 +5,11 @@ use mathlib.Core.Bool.{Bool, not, cond, _&&_}
 use mathlib.Core.List.{List, [], _∷_}
 use lib.Dec.{eqb, leb, ltb}
 use lib.ListN.{getD, take, drop}
+use Rattle.refusal.specs.Outcome.{Answered, accepted, refusedWith}
+use Rattle.refusal.specs.Refusal.{why, whyOf}
+use Rattle.refusal.specs.declared.Why.{Why}
 use Rattle.commands.specs.declared.Command.{Command}
-use Rattle.commands.specs.declared.Command.the-variants.{Up, Down, Receive, Malformed}
+use Rattle.commands.specs.declared.Command.the-variants.{Up, Down, Receive, Refused}
 
 -- ---- lines: a newline (10) ends one, and nothing stands after the last
 
@@ -39,24 +42,31 @@ numberOf (a ∷ b ∷ c ∷ l) = none
 
 -- ---- commands
 
--- what an event line says; every promise about a command goes through `saidCommand`, which is injective (proofs/Said.antt)
-pub record SaidCommand : Type 0 where
-  pub number : ℕ  -- 0: it names an event; 15: malformed
-  pub letter : ℕ  -- U, D or M in ASCII; 0 when malformed
-  pub first : ℕ  -- its two numbers as they stand in the line; 0 when malformed
+-- an event line: U, D or M in ASCII, and its two numbers as they stand in the line; all 0 when malformed
+pub record Line : Type 0 where
+  pub letter : ℕ
+  pub first : ℕ
   pub second : ℕ
 
+-- what a line says: 0 and the event that it names, or 15; every promise about a command goes through `saidCommand`, which is injective
+-- (proofs/Said.antt)
+abbrev pub SaidCommand : Type 0
+SaidCommand = Answered Line
+
 abbrev pub saidEvent : ℕ → ℕ → ℕ → SaidCommand
-saidEvent letter u v = record { number = 0; letter = letter; first = u; second = v }
+saidEvent letter u v = accepted (record { letter = letter; first = u; second = v })
+
+abbrev pub malformedWith : Why → SaidCommand
+malformedWith w = refusedWith (record { letter = 0; first = 0; second = 0 }) w
 
 abbrev pub saidMalformed : SaidCommand
-saidMalformed = record { number = 15; letter = 0; first = 0; second = 0 }
+saidMalformed = malformedWith (why 15 0 0)
 
 abbrev pub saidCommand : Command → SaidCommand
 saidCommand (Up u v) = saidEvent 85 u v
 saidCommand (Down u v) = saidEvent 68 u v
 saidCommand (Receive u v) = saidEvent 77 u v
-saidCommand Malformed = saidMalformed
+saidCommand (Refused r) = malformedWith (whyOf r)
 
 -- how many bytes stand before the first space (32)
 unfoldable pub toSpace : List ℕ → ℕ

@@ -5,13 +5,14 @@ ghost use mathlib.Core.Path.{_≡_};
 ghost use Prim.Native.Nat.{suc, _+_, _≤_};
 ghost use lib.ListN.{length, take, drop};
 ghost use Rattle.commands.specs.Commands.{isDigit, numberOf, inRange, toSpace, toNewline, saidCommand, named, commandOf, headOf};
+use refusal::Refusal;
 
 // What an event line names, or that it is malformed (15).
 pub enum Command {
     Up(u32, u32),
     Down(u32, u32),
     Receive(u32, u32),
-    Malformed,
+    Refused(Refusal),
 }
 
 fn is_digit(b: u8) -> bool
@@ -108,7 +109,7 @@ fn event(kind: u8, u: u32, v: u32) -> Command
     ensures { λ r. ⌜ saidCommand r ≡ named kind u v ⌝ }
 {
     if !((u < 100) & (v < 100)) {
-        return Command::Malformed;
+        return Command::Refused(Refusal::Malformed);
     }
     if kind == b'U' {
         return Command::Up(u, v);
@@ -119,7 +120,7 @@ fn event(kind: u8, u: u32, v: u32) -> Command
     if kind == b'M' {
         return Command::Receive(u, v);
     }
-    Command::Malformed
+    Command::Refused(Refusal::Malformed)
 }
 
 // The event of a letter and of the text of two numbers, with one space between.
@@ -128,7 +129,7 @@ fn numbered(kind: u8, rest: &[u8]) -> Command
 {
     let k = to_space(rest);
     if k == rest.len() {
-        return Command::Malformed;
+        return Command::Refused(Refusal::Malformed);
     }
     event(kind, number(&rest[..k]), number(&rest[k + 1..]))
 }
@@ -138,10 +139,10 @@ pub fn parse(line: &[u8]) -> Command
     ensures { λ r. ⌜ saidCommand r ≡ commandOf (now (line .entry)) ⌝ }
 {
     if line.len() < 2 {
-        return Command::Malformed;
+        return Command::Refused(Refusal::Malformed);
     }
     if line[1] == b' ' {
         return numbered(line[0], &line[2..]);
     }
-    Command::Malformed
+    Command::Refused(Refusal::Malformed)
 }
