@@ -2,13 +2,14 @@
 // Every call takes anything; its contract is the equation of the call that it makes.
 ghost use mathlib.Core.Path.{_≡_};
 ghost use lib.Count.{ones};
-ghost use Rattle.election.specs.StepOn.{outcome, stepOn};
+ghost use Rattle.election.specs.StepOn.{stepOn};
 ghost use Rattle.lent.specs.Check.{checkOn};
-ghost use Rattle.lent.specs.Fresh.{filled, freshOn};
+ghost use Rattle.lent.specs.Fresh.{freshOn};
 ghost use Rattle.protocol.specs.Step.{up, down, receive};
-ghost use Rattle.image_snapshot.specs.ReadNode.{looked, readNodeOn};
+ghost use Rattle.image_snapshot.specs.ReadNode.{readNodeOn};
 ghost use Rattle.image_snapshot.specs.Restore.{restoreOn};
-ghost use Rattle.image_snapshot.specs.Save.{saving, saveOn};
+ghost use Rattle.image_snapshot.specs.Save.{saveOn};
+ghost use Rattle.refusal.specs.Outcome.{outcome};
 ghost use Rattle.tables.specs.Tables.{atEntry, atExit};
 ghost use Rattle.abi.specs.Report.{saidReport, saidCheckReport, saidSaveReport, saidNodeReport};
 ghost use Rattle.abi.specs.Sizes.{isSize, nodesLength, channelsLength, rowLength, imageLength};
@@ -121,7 +122,7 @@ pub extern "C" fn election_image_len(n: u32) -> usize
 // The fresh network of n nodes.
 #[no_mangle]
 pub extern "C" fn election_fresh(n: u32, nodes: &mut [u32], channels: &mut [u32]) -> CheckReport
-    ensures { λ r. ⌜ filled (saidCheckReport r) (atExit nodes channels) ≡ freshOn n (atEntry nodes channels) ⌝ }
+    ensures { λ r. ⌜ outcome (saidCheckReport r) (atExit nodes channels) ≡ freshOn n (atEntry nodes channels) ⌝ }
 {
     reports::of_check(lent::fresh(n, nodes, channels))
 }
@@ -191,7 +192,7 @@ pub extern "C" fn election_save(
     channels: &[u32],
     out: &mut [u8],
 ) -> SaveReport
-    ensures { λ r. ⌜ saving (saidSaveReport r) (now (out .exit)) ≡ saveOn n (atEntry nodes channels) (now (out .entry)) ⌝ }
+    ensures { λ r. ⌜ outcome (saidSaveReport r) (now (out .exit)) ≡ saveOn n (atEntry nodes channels) (now (out .entry)) ⌝ }
 {
     reports::of_save(image_snapshot::save(n, nodes, channels, out))
 }
@@ -203,9 +204,9 @@ pub extern "C" fn election_restore(
     nodes: &mut [u32],
     channels: &mut [u32],
 ) -> CheckReport
-    ensures { λ r. ⌜ filled (saidCheckReport r) (atExit nodes channels) ≡ restoreOn (now (image .entry)) (atEntry nodes channels) ⌝ }
+    ensures { λ r. ⌜ outcome (saidCheckReport r) (atExit nodes channels) ≡ restoreOn (now (image .entry)) (atEntry nodes channels) ⌝ }
 {
-    reports::of_restore(image_snapshot::restore(image, nodes, channels))
+    reports::of_check(image_snapshot::restore(image, nodes, channels))
 }
 
 // Node k of an image, where its record is said to start: the heights go into `row`.
@@ -216,7 +217,7 @@ pub extern "C" fn election_read_node(
     place: u64,
     row: &mut [u32],
 ) -> NodeReport
-    ensures { λ r. ⌜ looked (saidNodeReport r) (now (row .exit)) ≡ readNodeOn (now (image .entry)) k place (now (row .entry)) ⌝ }
+    ensures { λ r. ⌜ outcome (saidNodeReport r) (now (row .exit)) ≡ readNodeOn (now (image .entry)) k place (now (row .entry)) ⌝ }
 {
     reports::of_node(image_snapshot::read_node(image, k, place, row))
 }

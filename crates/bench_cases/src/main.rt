@@ -1,6 +1,5 @@
 // Runs the bench on each file of data/: every rule; every refusal that a bench line can meet; malformed lines of each kind; nodes that
 // block each other, and the way out; inputs without a last newline, alone, empty, with a bad first line, of 65,536 and 65,537 bytes.
-mod space;
 
 fn case(path: &[u8]) {
     let file = os::open_read(path);
@@ -8,11 +7,11 @@ fn case(path: &[u8]) {
         os::fail(path);
         return;
     }
-    let mut input = space::input();
+    let mut input = bench_space::input();
     let got = io::read_full(file, &mut input);
     libc::close(file);
-    let mut out = space::output();
-    space::list(&input, got, &mut out);
+    let mut out = bench_space::output();
+    bench_space::list(&input, got, &mut out);
 }
 
 fn heads() {

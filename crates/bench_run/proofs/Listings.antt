@@ -6,8 +6,8 @@ use mathlib.Core.Bool.{Bool, true, false, cond}
 use mathlib.Core.List.{List, [], _∷_, _++_}
 use mathlib.Core.Path.{_≡_, refl, sym, ap, ap₂, _∙_}
 use lib.Dec.{eqb}
+use Rattle.refusal.specs.Outcome.{Outcome}
 use Rattle.commands.specs.Commands.{SaidCommand, commandOf}
-use Rattle.election.specs.StepOn.{Outcome}
 use Rattle.election.proofs.RunLaws.{own-call}
 use Rattle.protocol.specs.Network.{Node, Network, fresh}
 use Rattle.calls.specs.History.{State, started, advance}

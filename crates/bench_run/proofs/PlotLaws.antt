@@ -10,11 +10,11 @@ use borrow.Author.Tests.{ne-eqb, le-leb, lt-leb, ltb-true, ltb-false}
 use lib.Dec.{leb, ltb}
 use lib.ListN.{length, take, drop}
 use lib.Seq.{length-take-le}
+use Rattle.refusal.specs.declared.Why.{Why}
 use Rattle.basics.proofs.Tests.{clash, Choice, yes!, no!, choice}
 use Rattle.commands.specs.Commands.{linesOf, toNewline, headOf}
 use Rattle.commands.proofs.LineLaws.{lines-next}
-use Rattle.lent.specs.Check.{SaidCheck}
-use Rattle.lent.specs.Fresh.{Filled, filled, freshOn}
+use Rattle.lent.specs.Fresh.{freshOn}
 use Rattle.lent.proofs.CheckLaws.{is-sized}
 use Rattle.protocol.specs.Network.{fresh}
 use Rattle.tables.specs.Load.{tablesOf}
@@ -32,7 +32,7 @@ use Rattle.bench_run.proofs.PourLaws.{Poured, then}
 
 -- ---- the tables
 
-pub made-fresh : (n : ℕ) (t : Tables) → Sized n t → {s : SaidCheck} {u : Tables} → filled s u ≡ freshOn n t → u ≡ tablesOf n fresh
+pub made-fresh : (n : ℕ) (t : Tables) → Sized n t → {s : Why} {u : Tables} → filled s u ≡ freshOn n t → u ≡ tablesOf n fresh
 unfolding freshOn
 made-fresh n t size e = ap (λ (f : Filled). f .after) (rw (is-sized n t size) at e)
 

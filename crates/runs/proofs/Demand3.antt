@@ -6,9 +6,10 @@ use mathlib.Core.List.{List, [], _∷_, _++_}
 use mathlib.Core.Logic.{_⊎_, inl, inr}
 use mathlib.Core.Path.{_≡_, sym, ap, _∙_}
 use lib.ListN.{length}
+use Rattle.refusal.specs.Refusal.{why}
+use Rattle.refusal.specs.Outcome.{outcome}
 use Rattle.election.specs.RunOn.{EventCall, tablesAfter as tablesAfterEvents, saidByTables}
-use Rattle.lent.specs.Check.{checked}
-use Rattle.lent.specs.Fresh.{Filled, filled, freshOn}
+use Rattle.lent.specs.Fresh.{freshOn}
 use Rattle.lent.proofs.CheckLaws.{sized-is}
 use Rattle.protocol.specs.Network.{Node, Network, upTo, own}
 use Rattle.calls.specs.Component.{Quiescent, OneLeader}
@@ -47,10 +48,10 @@ pub record LastSave (n : ℕ) (cs : List Call) (b : List ℕ) : Type 0 where
   pub size : ℕ
   pub room : List ℕ
   pub list : cs ≡ before ++ (save size room ∷ rest)
-  pub accepted : saveOn size (tablesAt n before) room .said .check .number ≡ 0
+  pub accepted : saveOn size (tablesAt n before) room .said .why .number ≡ 0
   pub bytes : putOut (saveOn size (tablesAt n before) room) ≡ b
   pub no-later : (mid more : List Call) (m : ℕ) (out : List ℕ) → rest ≡ mid ++ (save m out ∷ more)
-      → saveOn m (tablesAt n (before ++ (save size room ∷ mid))) out .said .check .number ≡ 0
+      → saveOn m (tablesAt n (before ++ (save size room ∷ mid))) out .said .why .number ≡ 0
       → putOut (saveOn m (tablesAt n (before ++ (save size room ∷ mid))) out) ≡ b → ⊥
 
 -- an accepted restore of the bytes b behind the calls cs goes on as from the last save of cs that wrote these bytes: the history is
@@ -118,21 +119,21 @@ remembers n cs b s e = go (remembered onTables b start s cs e)
 module _ (n : ℕ) (low : 1 ≤ n) (few : n ≤ 16) where
   -- a restore of the bytes of an earlier save says 0 and leaves the tables as they were at that save
   pub put-back : (cs : List Call) (b : List ℕ) (s : Saved Tables) → Allowed n cs → lastSave b (after n cs .saves) ≡ savedAt s
-      → restoreOn b (tablesAt n cs) ≡ filled (checked 0 0 0) (s .at)
+      → restoreOn b (tablesAt n cs) ≡ outcome (why 0 0 0) (s .at)
   put-back cs b s allowed e =
       let v = meantAfter n cs in
       let sim = from-fresh n low few cs allowed in
       let r = last-from n b (v .saves) s (ap (λ (w : RunState Tables). lastSave b (w .saves)) (sym (sim .run-is)) ∙ e) in
       ap (restoreOn b) (on-tables n low few cs allowed .tables-are)
       ∙ restore-is n low few v (sim .sane) b (r .0) (r .1)
-      ∙ ap (λ (x : Saved Tables). filled (checked 0 0 0) (x .at)) (r .2)
+      ∙ ap (λ (x : Saved Tables). outcome (why 0 0 0) (x .at)) (r .2)
 
   accepted : (cs : List Call) (b : List ℕ) → Allowed n cs → Fair onTables (after n cs) (restore b)
       → restoreOn b (tablesAt n cs) .said .number ≡ 0 → Resumed n cs b
   accepted cs b allowed (fairSaved _ s e) zero! =
       let start = startOfRun (freshTables n) in
       let r = remembers n cs b s e in
-      let back = put-back cs b s allowed e ∙ ap (λ (x : Saved Tables). filled (checked 0 0 0) (x .at)) (r .is) in
+      let back = put-back cs b s allowed e ∙ ap (λ (x : Saved Tables). outcome (why 0 0 0) (x .at)) (r .is) in
       record {
         last = r .last;
         history =

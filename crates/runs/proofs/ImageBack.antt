@@ -17,7 +17,6 @@ use Rattle.calls.proofs.Runs.{Sane}
 use Rattle.protocol.proofs.SoundStep.{sound-fits}
 use Rattle.basics.proofs.Tests.{Choice, yes!, no!, choice}
 use Rattle.image_snapshot.specs.Restore.{restoreOn}
-use Rattle.image_snapshot.specs.Save.{put}
 use Rattle.image_snapshot.proofs.RefusedLaws.{restore-kept}
 use Rattle.image_snapshot.proofs.RestoreSaved.{restore-image}
 use Rattle.tables.specs.Load.{tablesOf}
@@ -36,25 +35,25 @@ take-front [] rest = refl
 take-front (x ∷ b) rest = ap (λ (l : List ℕ). x ∷ l) (take-front b rest)
 
 -- 0 is said exactly where the bytes fit, and then they stand at the front
-pub put-out : (b out : List ℕ) → put b out .said .check .number ≡ 0 → putOut (put b out) ≡ b
+pub put-out : (b out : List ℕ) → putFront b out .said .why .number ≡ 0 → putOut (putFront b out) ≡ b
 unfolding put
 put-out b out zero! = go (choice (leb (length b) (length out))) zero!
   where
-    go : Choice (leb (length b) (length out)) → put b out .said .check .number ≡ 0 → putOut (put b out) ≡ b
+    go : Choice (leb (length b) (length out)) → putFront b out .said .why .number ≡ 0 → putOut (putFront b out) ≡ b
     go (yes! e) z = rw e (take-front b (drop (length b) out))
     go (no! e) z = let y : _≡_ {A = ℕ} 14 0 = rw e at z in absurd (omega arith)
 
 -- a save by the meaning, accepted
 pub record SaveGood (n m : ℕ) (out : List ℕ) (p : Network) : Type 0 where
   pub size : m ≡ n
-  pub is : saveMeant n m out p ≡ put (image n p) out
+  pub is : saveMeant n m out p ≡ putFront (image n p) out
   pub bytes : putOut (saveMeant n m out p) ≡ image n p
 
-pub save-good : (n m : ℕ) (out : List ℕ) (p : Network) → saveMeant n m out p .said .check .number ≡ 0 → SaveGood n m out p
+pub save-good : (n m : ℕ) (out : List ℕ) (p : Network) → saveMeant n m out p .said .why .number ≡ 0 → SaveGood n m out p
 unfolding saveMeant
 save-good n m out p zero! = go (choice (eqb m n)) zero!
   where
-    go : Choice (eqb m n) → saveMeant n m out p .said .check .number ≡ 0 → SaveGood n m out p
+    go : Choice (eqb m n) → saveMeant n m out p .said .why .number ≡ 0 → SaveGood n m out p
     go (yes! e) z = record { size = eqb-true m n e; is = rw e; bytes = rw e (put-out (image n p) out (rw e at z)) }
     go (no! e) z = let y : _≡_ {A = ℕ} 1 0 = rw e at z in absurd (omega arith)
 
@@ -63,7 +62,7 @@ save-good n m out p zero! = go (choice (eqb m n)) zero!
 module _ (n : ℕ) (low : 1 ≤ n) (few : n ≤ 16) where
   -- what a restore of a network's image does to tables of n nodes
   pub restore-of : (p : Network) (b : List ℕ) → sound n p ≡ true → restrict n p ≡ p → ImageOf n p b → (q : Network)
-      → restoreOn b (tablesOf n q) ≡ record { said = record { number = 0; faultAt = 0; faultWith = 0 }; after = tablesOf n p }
+      → restoreOn b (tablesOf n q) ≡ outcome (why 0 0 0) (tablesOf n p)
   restore-of p b holds inside is q =
       ap (λ (x : List ℕ). restoreOn x (tablesOf n q)) is
       ∙ restore-image n low few p holds inside (tablesOf n q) (is-sized n (tablesOf n q) (tables-sized n q low few))
@@ -72,7 +71,7 @@ module _ (n : ℕ) (low : 1 ≤ n) (few : n ≤ 16) where
   writes m out p zero! = save-good n m out p zero! .bytes
 
   pub reads : (p : Network) (b : List ℕ) → sound n p ≡ true → restrict n p ≡ p → ImageOf n p b → (q : Network)
-      → restoreMeant n b q ≡ record { number = 0; left = p }
+      → restoreMeant n b q ≡ record { said = 0; after = p }
   unfolding restoreMeant
   reads p b holds inside is q = rw (restore-of p b holds inside is q, load-back n p (storable n p (sound-fits n p inside holds)))
 

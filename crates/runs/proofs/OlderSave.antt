@@ -6,6 +6,8 @@ use mathlib.Core.Bool.{true}
 use mathlib.Core.List.{List, [], _∷_, _++_, map}
 use mathlib.Core.Path.{_≡_, refl}
 use lib.ListN.{set, replicate}
+use Rattle.refusal.specs.Refusal.{why}
+use Rattle.refusal.specs.Outcome.{outcome, refusedWith}
 use Rattle.bits.specs.Bits.{bits, number, unpacked, packed, field, spread, gathered}
 use Rattle.election.specs.StepOn.{stepAt, stepChecked, stepOn}
 use Rattle.height.specs.Height.{zeroLevel, levelKey, pairKey, heightKey}
@@ -16,7 +18,7 @@ use Rattle.image.specs.Places.{fieldIn, nodePlace, heightFrom, messagesOf, chan
 use Rattle.image.specs.Places.{channelsNext, channelsPlace, channelsFromPlace, channelPlace, imageEnd, recordsIn, tablesIn}
 use Rattle.image.specs.Records.{recordsOf, rowOf, placesOf, cellOf, messagesFrom, tablesFrom}
 use Rattle.image.specs.Widths.{recordBits, extendedOf, recordOf, heightWidth, messageWidth, nodeWidth}
-use Rattle.lent.specs.Check.{checked, pairAt, faultInRow, faultFrom, firstFault, checkOn}
+use Rattle.lent.specs.Check.{pairAt, faultInRow, faultFrom, firstFault, checkOn}
 use Rattle.nodeset.specs.NodeSet.{member, setOf, within}
 use Rattle.pairs.specs.Pair.{ownSound, viewSound, channelPlace as channelPlaceHolds, pairSound}
 use Rattle.protocol.specs.Answer.{carriedOut, saidRefused}
@@ -35,7 +37,7 @@ use Rattle.image_reading.specs.Examine.{afterWalk, examined}
 use Rattle.image_reading.specs.Header.{headerHolds, headerOf}
 use Rattle.image_reading.specs.Walk.{channelStep, onward, steps, channelsFromWalk, channelsWalk, walk, endsAt}
 use Rattle.image_snapshot.specs.Restore.{restoreExamined, restoreOf, restoreHeaded, restoreOn}
-use Rattle.image_snapshot.specs.Save.{saidSaved, saving, put, saveChecked, saveOn}
+use Rattle.image_snapshot.specs.Save.{saveChecked, saveOn}
 use Rattle.tables.specs.Cell.{messageAt, messagesAt, queue, allZero, messageWords, placeWords, cellWords}
 use Rattle.tables.specs.Load.{load, tablesOf}
 use Rattle.tables.specs.Row.{heightIn, nodeWords}
@@ -118,14 +120,14 @@ settling = toEvent (carriedOut 82 2 0 zeroLevel) ∷ toEvent (carriedOut 81 0 0 
 
 abbrev pub separating : List Reply
 separating =
-    toEvent (carriedOut 69 0 0 zeroLevel) ∷ toEvent (carriedOut 69 0 0 zeroLevel) ∷ toEvent (saidRefused 5 0 0)
-    ∷ toEvent (saidRefused 1 0 0) ∷ toSave (saving (saidSaved 14 0 0 0) []) ∷ []
+    toEvent (carriedOut 69 0 0 zeroLevel) ∷ toEvent (carriedOut 69 0 0 zeroLevel) ∷ toEvent (saidRefused (why 5 0 0))
+    ∷ toEvent (saidRefused (why 1 0 0)) ∷ toSave (outcome (refusedWith 0 (why 14 0 0)) []) ∷ []
 
 abbrev pub answers : List Reply
 answers =
     meeting ++ (toSave (saving (saidSaved 0 0 0 101) (older ++ replicate 19 0))
     ∷ (settling ++ (toSave (saving (saidSaved 0 0 0 69) (younger ++ replicate 51 0))
-    ∷ (separating ++ (toRestore (checked 10 0 0) ∷ toRestore (checked 2 1 1) ∷ toRestore (checked 0 0 0) ∷ settling)))))
+    ∷ (separating ++ (toRestore (why 10 0 0) ∷ toRestore (why 2 1 1) ∷ toRestore (why 0 0 0) ∷ settling)))))
 
 -- ---- what is shown
 
@@ -135,7 +137,7 @@ pub record Computed : Type 0 where
   -- the accepted saves, newest first; the older put these bytes out
   pub saves-are : map (λ (s : Saved Tables). s .bytes) (after 2 behind .saves) ≡ younger ∷ older ∷ []
   pub put-out : putOut (saveOn 2 (tablesAt 2 meet) room) ≡ older
-  pub accepted : saveOn 2 (tablesAt 2 meet) room .said .check .number ≡ 0
+  pub accepted : saveOn 2 (tablesAt 2 meet) room .said .why .number ≡ 0
   pub no-image : restoreOn [] (tablesAt 2 first) .said .number ≡ 10
   pub at-fault : restoreOn damaged (tablesAt 2 (first ++ (restore [] ∷ []))) .said .number ≡ 2
   -- the accepted events, newest first, each with what was said; those behind the older save are gone

@@ -3,8 +3,8 @@
 use Prim.Native.Nat.{ℕ, _≤_}
 use mathlib.Core.List.{List, [], _∷_, _++_}
 use mathlib.Core.Path.{_≡_, refl, sym, ap, subst, _∙_}
-use Rattle.lent.specs.Check.{checked}
-use Rattle.lent.specs.Fresh.{Filled, filled}
+use Rattle.refusal.specs.Refusal.{why}
+use Rattle.refusal.specs.Outcome.{outcome}
 use Rattle.protocol.specs.Network.{Network, fresh}
 use Rattle.calls.specs.Run.{Call, save, restore, Saved, RunState, startOfRun, savedAt, lastSave, act, perform}
 use Rattle.calls.specs.Run.{Fair, fairEvent, fairSave, fairSaved, fairRefused, AllFair, fairNil, fairCons}
@@ -32,24 +32,24 @@ pub record ComesBack (n : ℕ) (t : Tables) (b : List ℕ) (cs : List Call) : Ty
   pub same : saved .at ≡ t
   -- so a restore of them may follow, says 0, and leaves these tables
   pub allowed : Allowed n (cs ++ (restore b ∷ []))
-  pub restored : restoreOn b (tablesAt n cs) ≡ filled (checked 0 0 0) t
+  pub restored : restoreOn b (tablesAt n cs) ≡ outcome (why 0 0 0) t
 
 abbrev pub Statement : Type 0
 Statement = (n : ℕ) → 1 ≤ n → n ≤ 16 → (before rest : List Call) (m : ℕ) (out : List ℕ) → Allowed n (before ++ (save m out ∷ rest))
-    → saveOn m (tablesAt n before) out .said .check .number ≡ 0
+    → saveOn m (tablesAt n before) out .said .why .number ≡ 0
     → ComesBack n (tablesAt n before) (putOut (saveOn m (tablesAt n before) out)) (before ++ (save m out ∷ rest))
 
 -- right after it that save is the last one that wrote these bytes, with the history as it stood
 abbrev pub RightAfter : Type 0
-RightAfter = (n : ℕ) (before : List Call) (m : ℕ) (out : List ℕ) → saveOn m (tablesAt n before) out .said .check .number ≡ 0
+RightAfter = (n : ℕ) (before : List Call) (m : ℕ) (out : List ℕ) → saveOn m (tablesAt n before) out .said .why .number ≡ 0
     → lastSave (putOut (saveOn m (tablesAt n before) out)) (then (after n before) (save m out) .saves)
     ≡ savedAt (record { bytes = putOut (saveOn m (tablesAt n before) out); at = tablesAt n before; history = after n before .history })
 
 -- and it stays so where no accepted save of the further calls wrote them
 abbrev pub StaysLast : Type 0
-StaysLast = (n : ℕ) (before rest : List Call) (m : ℕ) (out : List ℕ) → saveOn m (tablesAt n before) out .said .check .number ≡ 0
+StaysLast = (n : ℕ) (before rest : List Call) (m : ℕ) (out : List ℕ) → saveOn m (tablesAt n before) out .said .why .number ≡ 0
     → ((mid more : List Call) (k : ℕ) (to : List ℕ) → rest ≡ mid ++ (save k to ∷ more)
-    → saveOn k (tablesAt n (before ++ (save m out ∷ mid))) to .said .check .number ≡ 0
+    → saveOn k (tablesAt n (before ++ (save m out ∷ mid))) to .said .why .number ≡ 0
     → putOut (saveOn k (tablesAt n (before ++ (save m out ∷ mid))) to) ≡ putOut (saveOn m (tablesAt n before) out) → ⊥)
     → lastSave (putOut (saveOn m (tablesAt n before) out)) (after n (before ++ (save m out ∷ rest)) .saves)
     ≡ savedAt (record { bytes = putOut (saveOn m (tablesAt n before) out); at = tablesAt n before; history = after n before .history })
@@ -65,7 +65,7 @@ record Recorded (b : List ℕ) (q : Tables) (w : RunState Tables) : Type 0 where
 pub right-after : RightAfter
 right-after n before m out zero! = go (after n before) (tablesAt n before) (now-after (startOfRun (freshTables n)) before) zero!
   where
-    go : (w : RunState Tables) (t : Tables) → w .now ≡ t → saveOn m t out .said .check .number ≡ 0
+    go : (w : RunState Tables) (t : Tables) → w .now ≡ t → saveOn m t out .said .why .number ≡ 0
         → lastSave (putOut (saveOn m t out)) (then w (save m out) .saves)
         ≡ savedAt (record { bytes = putOut (saveOn m t out); at = t; history = w .history })
     go w t e z = rw (← e) (save-last onTables w m out (rw (← e) at z))
@@ -82,11 +82,11 @@ stays-the-last n before rest m out zero! other =
 module _ (n : ℕ) (low : 1 ≤ n) (few : n ≤ 16) where
   -- what a restore of recorded bytes does
   restores : (w : RunState Network) → SaneRun n low few w → (b : List ℕ) (q : Tables) → Recorded b q (onto n w)
-      → restoreOn b (tablesOf n (w .now)) ≡ filled (checked 0 0 0) q
+      → restoreOn b (tablesOf n (w .now)) ≡ outcome (why 0 0 0) q
   restores w sane b q k =
       let r = last-from n b (w .saves) (k .saved) (k .last) in
       restore-is n low few w sane b (r .0) (r .1)
-      ∙ ap (λ (x : Saved Tables). filled (checked 0 0 0) (x .at)) (r .2) ∙ ap (filled (checked 0 0 0)) (k .same)
+      ∙ ap (λ (x : Saved Tables). outcome (why 0 0 0) (x .at)) (r .2) ∙ ap (outcome (why 0 0 0)) (k .same)
 
   -- a further call leaves them recorded: where it is a save that wrote the same bytes, it was made on the same tables
   still : (w : RunState Network) → SaneRun n low few w → (b : List ℕ) (q : Tables) → Recorded b q (onto n w)
@@ -118,7 +118,7 @@ saved-comes-back n low few before rest m out allowed zero! = record {
   last = there .last;
   same = there .same;
   allowed = fair-append onTables start cs (restore b ∷ []) allowed (fairCons (fairSaved b (there .saved) (there .last)) fairNil);
-  restored = put-back n low few cs b (there .saved) allowed (there .last) ∙ ap (filled (checked 0 0 0)) (there .same);
+  restored = put-back n low few cs b (there .saved) allowed (there .last) ∙ ap (outcome (why 0 0 0)) (there .same);
 }
   where
     start : RunState Tables

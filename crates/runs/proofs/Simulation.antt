@@ -7,15 +7,17 @@ use mathlib.Core.Logic.{inl, inr}
 use mathlib.Core.Path.{_≡_, refl, sym, ap, subst, _∙_}
 use borrow.Author.Tests.{eq-eqb, ne-eqb}
 use lib.Dec.{eqb}
+use Rattle.refusal.specs.Refusal.{why}
+use Rattle.refusal.specs.Outcome.{outcome, Outcome}
 use Rattle.election.specs.RunOn.{saidTo, called}
-use Rattle.election.specs.StepOn.{Outcome, outcome, stepOn}
+use Rattle.election.specs.StepOn.{stepOn}
 use Rattle.election.proofs.RunLaws.{not-sized, one-call}
-use Rattle.lent.specs.Check.{checked, checkOn}
+use Rattle.lent.specs.Check.{checkOn}
 use Rattle.lent.proofs.CheckLaws.{check-sizes}
 use Rattle.lent.proofs.SoundNetworks.{sound-check}
 use Rattle.calls.specs.History.{advance}
 use Rattle.protocol.specs.Network.{Network, fresh}
-use Rattle.calls.specs.Run.{Call, event, save, restore, Returned, Saved, RunState, startOfRun, sameBytes, Earlier, never, savedAt, lastSave}
+use Rattle.calls.specs.Run.{Call, event, save, restore, Saved, RunState, startOfRun, sameBytes, Earlier, never, savedAt, lastSave}
 use Rattle.calls.specs.Run.{steppedTo, savedTo, act, perform, Fair, fairEvent, fairSave, fairSaved, fairRefused, AllFair}
 use Rattle.protocol.specs.Step.{Event}
 use Rattle.protocol.proofs.Holding.{sound-holds}
@@ -24,7 +26,7 @@ use Rattle.calls.proofs.Runs.{stateOf, act-sane, start-sane, Imaged}
 use Rattle.calls.proofs.SavesLaws.{found}
 use Rattle.basics.proofs.Tests.{Choice, yes!, no!, choice, SameOrNot, equal?}
 use Rattle.image_snapshot.specs.Restore.{restoreOn}
-use Rattle.image_snapshot.specs.Save.{SaveOutcome, saveChecked, saveOn}
+use Rattle.image_snapshot.specs.Save.{saveChecked, saveOn}
 use Rattle.image_snapshot.proofs.RefusedLaws.{restore-kept}
 use Rattle.tables.specs.Load.{load, tablesOf}
 use Rattle.tables.specs.Tables.{Tables}
@@ -100,7 +102,7 @@ module _ (n : ℕ) (low : 1 ≤ n) (few : n ≤ 16) (w : RunState Network) (sane
   unfolding saveOn saveChecked saveMeant
   save-is m out = go (equal? m n)
     where
-      passes : checkOn n t ≡ checked 0 0 0
+      passes : checkOn n t ≡ why 0 0 0
       passes = sound-check n p (storable n p (sane .good .fits)) (sound-holds n p (sane .good .fits)) low few
 
       go : SameOrNot m n → saveOn m t out ≡ saveMeant n m out p
@@ -119,7 +121,7 @@ module _ (n : ℕ) (low : 1 ≤ n) (few : n ≤ 16) (w : RunState Network) (sane
 
   -- a restore of an earlier save's bytes says 0 and leaves the tables of the network at that save
   pub restore-is : (b : List ℕ) (s : Saved Network) → lastSave b (w .saves) ≡ savedAt s
-      → restoreOn b (tablesOf n (w .now)) ≡ record { said = checked 0 0 0; after = tablesOf n (s .at) }
+      → restoreOn b (tablesOf n (w .now)) ≡ record { said = why 0 0 0; after = tablesOf n (s .at) }
   restore-is b s e =
       let f = found (Imaged _ _ n (ImageOf n) (writes n low few) (reads n low few) (kept n low few)) b (w .saves) (sane .saves) s e in
       let fits = f .1 .good .fits in

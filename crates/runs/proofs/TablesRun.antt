@@ -3,7 +3,7 @@
 use Prim.Native.Nat.{ℕ, _≤_}
 use mathlib.Core.List.{List, [], _∷_, _++_}
 use mathlib.Core.Path.{_≡_, refl, sym, ap, ap₂, _∙_}
-use Rattle.election.specs.StepOn.{Outcome}
+use Rattle.refusal.specs.Outcome.{Outcome}
 use Rattle.protocol.specs.Network.{Network, fresh}
 use Rattle.calls.specs.Run.{Call, event, save, restore, RunState, startOfRun, act, perform, AllFair}
 use Rattle.tables.specs.Load.{load, tablesOf}
@@ -38,7 +38,6 @@ now-one w (save m out) = refl
 now-one w (restore b) = refl
 
 pub now-after : (w : RunState Tables) (cs : List Call) → perform onTables w cs .now ≡ tablesAfterAll (w .now) cs
-unfolding tablesAfterAll
 now-after w [] = refl
 now-after w (c ∷ cs) = now-after (then w c) cs ∙ ap (λ (t : Tables). tablesAfterAll t cs) (now-one w c)
 
@@ -60,7 +59,6 @@ module _ (n : ℕ) (low : 1 ≤ n) (few : n ≤ 16) where
 
   replies-from : (w : RunState Network) (cs : List Call) → SaneRun n low few w → AllFair onTables (onto n w) cs
       → replies (tablesOf n (w .now)) cs ≡ repliesTo n w cs
-  unfolding replies repliesTo
   replies-from w [] sane fs = refl
   replies-from w (c ∷ cs) sane fs =
       let f = fair-from n low few w sane c (fair-head onTables (onto n w) c cs fs) in

@@ -1,16 +1,17 @@
 -- Lists of calls on lent tables: what each call answers, and the tables after it; with the history and the accepted saves, the whole run.
 -- What a call answers and leaves is what its contract equates to: `stepOn`, `saveOn`, `restoreOn`.
 use Prim.Native.Nat.{ℕ}
-use mathlib.Core.List.{List, [], _∷_}
+use mathlib.Core.List.{List}
 use lib.ListN.{take}
-use Rattle.election.specs.StepOn.{Outcome, stepOn}
-use Rattle.lent.specs.Check.{SaidCheck}
-use Rattle.lent.specs.Fresh.{Filled}
+use Rattle.refusal.specs.declared.Why.{Why}
+use Rattle.refusal.specs.Outcome.{Answered, Outcome, outcome}
+use Rattle.basics.specs.Functions.{afterAll, sayAll}
+use Rattle.election.specs.StepOn.{stepOn}
 use Rattle.protocol.specs.Answer.{Said}
 use Rattle.protocol.specs.Network.{fresh}
-use Rattle.calls.specs.Run.{Call, event, save, restore, Stepped, Returned, Calls, RunState, startOfRun, act, perform, AllFair}
+use Rattle.calls.specs.Run.{Call, event, save, restore, Calls, RunState, startOfRun, act, perform, AllFair}
 use Rattle.image_snapshot.specs.Restore.{restoreOn}
-use Rattle.image_snapshot.specs.Save.{SaveOutcome, saveOn}
+use Rattle.image_snapshot.specs.Save.{saveOn}
 use Rattle.tables.specs.Load.{tablesOf}
 use Rattle.tables.specs.Tables.{Tables}
 
@@ -19,8 +20,8 @@ use Rattle.tables.specs.Tables.{Tables}
 -- what a call answers; of a save also the lent bytes after it
 pub data Reply : Type 0 where
   toEvent : Said → Reply
-  toSave : SaveOutcome → Reply
-  toRestore : SaidCheck → Reply
+  toSave : Outcome (Answered ℕ) (List ℕ) → Reply
+  toRestore : Why → Reply
 
 unfoldable pub reply : Tables → Call → Reply
 reply t (event m e) = toEvent (stepOn m e t .said)
@@ -32,37 +33,32 @@ tablesAfter t (event m e) = stepOn m e t .after
 tablesAfter t (save m out) = t
 tablesAfter t (restore b) = restoreOn b t .after
 
-unfoldable pub tablesAfterAll : Tables → List Call → Tables
-tablesAfterAll t [] = t
-tablesAfterAll t (c ∷ cs) = tablesAfterAll (tablesAfter t c) cs
+abbrev pub tablesAfterAll : Tables → List Call → Tables
+tablesAfterAll t cs = afterAll tablesAfter t cs
 
-unfoldable pub replies : Tables → List Call → List Reply
-replies t [] = []
-replies t (c ∷ cs) = reply t c ∷ replies (tablesAfter t c) cs
+abbrev pub replies : Tables → List Call → List Reply
+replies t cs = sayAll tablesAfter reply t cs
 
 -- ---- the run
 
-abbrev pub stepping : Outcome → Stepped Tables
-stepping o = record { said = o .said; after = o .after }
-
 -- the bytes that a save put at the front of the lent ones
-abbrev pub putOut : SaveOutcome → List ℕ
-putOut o = take (o .said .size) (o .out)
+abbrev pub putOut : Outcome (Answered ℕ) (List ℕ) → List ℕ
+putOut o = take (o .said .value) (o .after)
 
-abbrev pub writing : SaveOutcome → Returned (List ℕ)
-writing o = record { number = o .said .check .number; left = putOut o }
+abbrev pub writing : Outcome (Answered ℕ) (List ℕ) → Outcome ℕ (List ℕ)
+writing o = outcome (o .said .why .number) (putOut o)
 
-abbrev pub refilling : Filled → Returned Tables
-refilling f = record { number = f .said .number; left = f .after }
+abbrev pub refilling : Outcome Why Tables → Outcome ℕ Tables
+refilling o = outcome (o .said .number) (o .after)
 
 abbrev pub onTables : Calls Tables
 onTables = record {
-  stepped = λ m e t. stepping (stepOn m e t);
+  stepped = stepOn;
   written = λ m out t. writing (saveOn m t out);
   resumed = λ b t. refilling (restoreOn b t);
 }
 
--- what `fresh` fills tables of n nodes with (`network`, freshOn)
+-- what `fresh` fills tables of n nodes with (`lent`, freshOn)
 abbrev pub freshTables : ℕ → Tables
 freshTables n = tablesOf n fresh
 

@@ -1,5 +1,4 @@
 -- `abi::election_check` meets its contract: what `lent::check` answers, as a struct.
--- Assumes nothing.
 use borrow.Author.Needs.{needs}
 use Rattle.abi.proofs.election_check.Statement.{statement}
 use Rattle.abi.proofs.election_check.Tie as tie

@@ -1,5 +1,4 @@
 -- `abi::election_down` meets its contract: what `election::down` answers, as a struct.
--- Assumes nothing.
 use borrow.Author.Needs.{needs}
 use Rattle.abi.proofs.election_down.Statement.{statement}
 use Rattle.abi.proofs.election_down.Tie as tie

@@ -1,5 +1,4 @@
 -- `abi::election_fresh` meets its contract: what `lent::fresh` answers, as a struct.
--- Assumes nothing.
 use borrow.Author.Needs.{needs}
 use Rattle.abi.proofs.election_fresh.Statement.{statement}
 use Rattle.abi.proofs.election_fresh.Tie as tie

@@ -1,5 +1,4 @@
 -- `abi::election_image_len` meets its contract: with n from 1 to 16 the sum fits.
--- Assumes nothing.
 use native.Mathlib.Omega.{arith}
 use mathlib.Core.Path.{sym, _∙_}
 use Rattle.image.specs.Widths.{messageWidth, heightWidth, nodeWidth}

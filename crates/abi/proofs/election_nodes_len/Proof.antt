@@ -1,5 +1,4 @@
 -- `abi::election_nodes_len` meets its contract: with n at most 16 the product fits.
--- Assumes nothing.
 use native.Mathlib.Omega.{arith}
 use mathlib.Core.Path.{sym, _∙_}
 use Rattle.abi.specs.Sizes.{nodesLength}

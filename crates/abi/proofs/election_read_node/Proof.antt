@@ -1,5 +1,4 @@
 -- `abi::election_read_node` meets its contract: what `image_snapshot::read_node` answers, as a struct.
--- Assumes nothing.
 use borrow.Author.Needs.{needs}
 use Rattle.abi.proofs.election_read_node.Statement.{statement}
 use Rattle.abi.proofs.election_read_node.Tie as tie

@@ -1,5 +1,4 @@
 -- `abi::election_receive` meets its contract: what `election::receive` answers, as a struct.
--- Assumes nothing.
 use borrow.Author.Needs.{needs}
 use Rattle.abi.proofs.election_receive.Statement.{statement}
 use Rattle.abi.proofs.election_receive.Tie as tie

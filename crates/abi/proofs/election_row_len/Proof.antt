@@ -1,5 +1,4 @@
 -- `abi::election_row_len` meets its contract: n heights, or 0.
--- Assumes nothing.
 use mathlib.Core.Path.{sym, _∙_}
 use Rattle.abi.specs.Sizes.{rowLength}
 use borrow.Author.Needs.{needs}

@@ -1,5 +1,4 @@
 -- `abi::election_save` meets its contract: what `image_snapshot::save` answers, as a struct.
--- Assumes nothing.
 use borrow.Author.Needs.{needs}
 use Rattle.abi.proofs.election_save.Statement.{statement}
 use Rattle.abi.proofs.election_save.Tie as tie

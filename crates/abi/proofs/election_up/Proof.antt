@@ -1,5 +1,4 @@
 -- `abi::election_up` meets its contract: what `election::up` answers, as a struct.
--- Assumes nothing.
 use borrow.Author.Needs.{needs}
 use Rattle.abi.proofs.election_up.Statement.{statement}
 use Rattle.abi.proofs.election_up.Tie as tie

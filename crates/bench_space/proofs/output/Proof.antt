@@ -1,10 +1,9 @@
--- `bench_cases::space::output` has the length it says.
--- Assumes nothing.
+-- `bench_space::output` has the length it says.
 use Prim.Native.Nat.{ℕ}
 use mathlib.Core.Path.{sym}
 use lib.ListN.{length-replicate}
-use Rattle.bench_cases.proofs.space.output.Statement.{statement}
-use Rattle.bench_cases.proofs.space.output.Tie as tie
+use Rattle.bench_space.proofs.output.Statement.{statement}
+use Rattle.bench_space.proofs.output.Tie as tie
 
 returns : tie.Need-returns
 returns c = sym (length-replicate {A = ℕ} 1048576 0)

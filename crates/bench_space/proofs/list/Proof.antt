@@ -1,11 +1,10 @@
--- `bench::space::list` takes no more bytes than there are.
--- Assumes nothing.
+-- `bench_space::list` takes no more bytes than there are.
 use native.Mathlib.Omega.{arith}
 use mathlib.Core.Path.{sym}
 use lib.Seq.{length-take-le}
 use borrow.Author.Needs.{needs}
-use Rattle.bench.proofs.space.list.Statement.{statement}
-use Rattle.bench.proofs.space.list.Tie as tie
+use Rattle.bench_space.proofs.list.Statement.{statement}
+use Rattle.bench_space.proofs.list.Tie as tie
 
 slice-aggregate-run : tie.Need-slice-aggregate-run
 slice-aggregate-run c = sym (length-take-le _ _ (omega arith))

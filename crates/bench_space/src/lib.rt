@@ -25,7 +25,7 @@ fn write(out: &[u8], size: usize) {
 fn run(input: &[u8], out: &mut [u8]) {
     match bench_run::run(input, out) {
         Ran::Listed(size) => write(out, size),
-        Ran::NoRoom => (),
+        Ran::Refused(_) => (),
     }
 }
 

@@ -1,11 +1,10 @@
--- `bench_cases::space::write` writes no more bytes than there are.
--- Assumes nothing.
+-- `bench_space::write` writes no more bytes than there are.
 use native.Mathlib.Omega.{arith}
 use mathlib.Core.Path.{sym}
 use lib.Seq.{length-take-le}
 use borrow.Author.Needs.{needs}
-use Rattle.bench_cases.proofs.space.write.Statement.{statement}
-use Rattle.bench_cases.proofs.space.write.Tie as tie
+use Rattle.bench_space.proofs.write.Statement.{statement}
+use Rattle.bench_space.proofs.write.Tie as tie
 
 slice-aggregate-write-all : tie.Need-slice-aggregate-write-all
 slice-aggregate-write-all c = sym (length-take-le _ _ (omega arith))
