@@ -1,5 +1,4 @@
 // Reference levels of the views in a set: all the same, the largest, and the smallest depth with it.
-// Assumes the bounds that each `requires` states.
 ghost use mathlib.Core.Path.{_≡_};
 ghost use Prim.Native.Nat.{_≤_};
 ghost use lib.ListN.{length};

@@ -1,5 +1,4 @@
 // Which rule a down or a receipt applies (document 01, "The three events").
-// Assumes the bounds that each `requires` states.
 ghost use mathlib.Core.Path.{_≡_};
 ghost use Prim.Native.Nat.{_≤_, _<_, _^_};
 ghost use lib.ListN.{length};

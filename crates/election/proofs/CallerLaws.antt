@@ -6,6 +6,7 @@ use mathlib.Core.List.{tail}
 use mathlib.Core.Path.{_≡_, refl, sym, ap, _∙_}
 use lib.Dec.{eqb}
 use borrow.Author.Tests.{eqb-true, eq-eqb}
+use Rattle.refusal.specs.Outcome.{outcome}
 use Rattle.basics.proofs.Tests.{clash, Choice, yes!, no!, choice}
 use Rattle.lent.specs.Check.{checkOn}
 use Rattle.lent.proofs.SoundTables.{Words, sound-fits}
@@ -25,9 +26,9 @@ use Rattle.tables.specs.Load.{load, tablesOf}
 use Rattle.tables.specs.Tables.{Tables, nodeOf, channelOf}
 use Rattle.tables.proofs.Back.{node-of, cell-of}
 use Rattle.tables.proofs.TablesLaws.{load-channel, tables-back}
-use Rattle.election.specs.StepOn.{outcome, stepAt, stepChecked, stepOn}
+use Rattle.election.specs.StepOn.{stepAt, stepChecked, stepOn}
 
-rule-accepted : (r : Rule) (s : ℕ) → saidRule r s .number ≡ 0
+rule-accepted : (r : Rule) (s : ℕ) → saidRule r s .why .number ≡ 0
 rule-accepted ChannelUp s = refl
 rule-accepted ElectSelf s = refl
 rule-accepted StartNewRefLevel s = refl
@@ -49,13 +50,13 @@ module _ (n : ℕ) (e : Event) (t : Tables) (words : Words t) where
     where
       go : Choice (eqb (checkOn n t .number) 0)
           → P (cond (eqb (checkOn n t .number) 0) (outcome (answer n (load n t) e) (tablesOf n (next n (load n t) e)))
-          (outcome (saidRefused (checkOn n t .number) (checkOn n t .faultAt) (checkOn n t .faultWith)) t) .after)
+          (outcome (saidRefused (checkOn n t)) t) .after)
       go (yes! i) = rw i (stepped (passing i))
       go (no! i) = rw i same
 
   -- ---- a refused call leaves both tables as they were
 
-  pub refused-same : (stepOn n e t .said .number ≡ 0 → ⊥) → stepOn n e t .after ≡ t
+  pub refused-same : (stepOn n e t .said .why .number ≡ 0 → ⊥) → stepOn n e t .after ≡ t
   unfolding stepOn stepChecked stepAt answer next
   refused-same refused = go (choice (eqb (checkOn n t .number) 0)) (choice (accepts n (load n t) e)) refused
     where
@@ -63,7 +64,7 @@ module _ (n : ℕ) (e : Event) (t : Tables) (words : Words t) where
       p = load n t
 
       go : Choice (eqb (checkOn n t .number) 0) → Choice (accepts n (load n t) e)
-          → (stepOn n e t .said .number ≡ 0 → ⊥) → stepOn n e t .after ≡ t
+          → (stepOn n e t .said .why .number ≡ 0 → ⊥) → stepOn n e t .after ≡ t
       go (no! i) a r = rw i
       go (yes! i) (no! a) r = rw (i, a) (tables-back n t (passing i))
       go (yes! i) (yes! a) r = absurd (r (rw (i, a) (rule-accepted (local n p e .rule) (setOf n (local n p e .sent)))))
@@ -92,7 +93,7 @@ module _ (n : ℕ) (e : Event) (t : Tables) (words : Words t) where
     pub accepted : accepts n (load n t) e ≡ true
     pub after-is : stepOn n e t .after ≡ tablesOf n (next n (load n t) e)
 
-  pub carried-out : stepOn n e t .said .number ≡ 0 → Carried
+  pub carried-out : stepOn n e t .said .why .number ≡ 0 → Carried
   unfolding stepOn stepChecked stepAt answer accepts
   carried-out zero! = go (choice (eqb (checkOn n t .number) 0)) (choice (eqb (returned n (load n t) e) 0))
     where
@@ -103,7 +104,7 @@ module _ (n : ℕ) (e : Event) (t : Tables) (words : Words t) where
       go (yes! i) (no! a) = clash (eq-eqb (returned n (load n t) e) 0 (rw (i, a) at zero!)) a
 
 -- of the channel received from, an accepted receipt takes the first message and no more
-pub received-cell : (n u v : ℕ) (t : Tables) → Words t → stepOn n (receive v u) t .said .number ≡ 0
+pub received-cell : (n u v : ℕ) (t : Tables) → Words t → stepOn n (receive v u) t .said .why .number ≡ 0
     → channelOf n v u (stepOn n (receive v u) t .after .channels) ≡ cellWords (tail (queue (channelOf n v u (t .channels))))
 received-cell n u v t words zero! =
     let c = carried-out n (receive v u) t words zero! in

@@ -23,10 +23,10 @@ use Rattle.tables.proofs.CellLaws.{queue-appended, appended-fits, queue-taken, 
 use Rattle.tables.proofs.ChangeLaws.{changed-pairs}
 use Rattle.tables.proofs.TablesLaws.{load-channel}
 use Rattle.tables.proofs.Wordy.{Wordy}
-use Rattle.election.specs.Cells.{CellsAre, Takes, clearedCells, sentCells}
-use Rattle.election.specs.Finish.{Between, eventOf}
-use Rattle.election.specs.declared.Kind.{Kind}
 use Rattle.election.specs.declared.Kind.the-variants.{Raised, Dropped, Received}
+use Rattle.election.specs.declared.Kind.{Kind}
+use Rattle.election.specs.inner.Cells.{CellsAre, Takes, clearedCells, sentCells}
+use Rattle.election.specs.inner.Deciding.{Between, eventOf}
 
 abbrev pub stamped : Height → ℕ → Message
 stamped h clock = record { height = h; timestamp = clock }

@@ -2,7 +2,8 @@
 -- Assumes that every word is one of 32 bits (`Words`).
 use Prim.Native.Nat.{ℕ}
 use mathlib.Core.Path.{_≡_, ap, _∙_}
-use Rattle.lent.specs.Check.{checked, checkOn}
+use Rattle.refusal.specs.Refusal.{why}
+use Rattle.lent.specs.Check.{checkOn}
 use Rattle.lent.proofs.SoundLoads.{sound-loads, load-inside}
 use Rattle.lent.proofs.SoundNetworks.{sound-check}
 use Rattle.lent.proofs.SoundTables.{Words}
@@ -21,7 +22,7 @@ module _ (n : ℕ) (e : Event) (t : Tables) (words : Words t) where
   loaded-fits : Carried n e t words → Fits n (load n t)
   loaded-fits c = sound-fits n (load n t) (load-inside n t (c .fit)) (sound-loads n t words (c .passes))
 
-  pub accepted-passes : stepOn n e t .said .number ≡ 0 → checkOn n (stepOn n e t .after) ≡ checked 0 0 0
+  pub accepted-passes : stepOn n e t .said .why .number ≡ 0 → checkOn n (stepOn n e t .after) ≡ why 0 0 0
   accepted-passes zero! =
       let c = carried-out n e t words zero! in
       let fits = fits-next n (load n t) e (loaded-fits c) in

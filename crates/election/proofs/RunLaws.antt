@@ -8,6 +8,8 @@ use mathlib.Core.Logic.{_⊎_, inl, inr}
 use mathlib.Core.Path.{_≡_, refl, sym}
 use lib.Dec.{eqb, ltb}
 use borrow.Author.Tests.{eq-eqb, ne-eqb, ltb-true, ltb-false}
+use Rattle.refusal.specs.Refusal.{why}
+use Rattle.refusal.specs.Outcome.{outcome}
 use Rattle.lent.proofs.CheckLaws.{check-sizes}
 use Rattle.lent.proofs.SoundNetworks.{sound-check}
 use Rattle.protocol.specs.Answer.{saidRefused}
@@ -23,8 +25,9 @@ use Rattle.calls.proofs.Theorems.{Steady, good-steady}
 use Rattle.tables.specs.Load.{load, tablesOf}
 use Rattle.tables.specs.Tables.{sized, width}
 use Rattle.tables.proofs.Back.{Storable, storable, load-back, tables-sized}
-use Rattle.election.specs.RunOn.{EventCall, tablesAfter, saidByTables, called, saidTo, stateAfter, saidByMeaning}
-use Rattle.election.specs.StepOn.{outcome, stepAt, stepChecked, stepOn}
+use Rattle.basics.specs.Functions.{afterAll, sayAll}
+use Rattle.election.specs.RunOn.{EventCall, tablesLeft, saidOn, called, saidTo}
+use Rattle.election.specs.StepOn.{stepAt, stepChecked, stepOn}
 
 -- tables of n nodes are tables of no other number of nodes
 grows : (n k : ℕ) → n * (3 + 7 * n) < (n + suc k) * (3 + 7 * (n + suc k))
@@ -61,7 +64,7 @@ module _ (n : ℕ) (low : 1 ≤ n) (few : n ≤ 16) (s : State) (good : Good n s
       rw (size .nodes, ne-eqb (n * width n) (m * width m) (λ q. d (width-one n m q)), and-false, and-false)
 
   other-call : (m : ℕ) (e : Event) → (m ≡ n → ⊥)
-      → stepOn m e (tablesOf n (s .network)) ≡ outcome (saidRefused 1 0 0) (tablesOf n (s .network))
+      → stepOn m e (tablesOf n (s .network)) ≡ outcome (saidRefused (why 1 0 0)) (tablesOf n (s .network))
   unfolding stepOn stepChecked
   other-call m e d = rw (sym (check-sizes m (tablesOf n (s .network)) (not-sized m d)))
 
@@ -82,14 +85,13 @@ module _ (n : ℕ) (low : 1 ≤ n) (few : n ≤ 16) (s : State) (good : Good n s
 
 -- after a list of calls: the same answers, the same tables, the same network, and what `protocol` shows of it
 pub record SameRun (n : ℕ) (s : State) (cs : List EventCall) : Type 0 where
-  pub answers-are : saidByTables (tablesOf n (s .network)) cs ≡ saidByMeaning n s cs
-  pub tables-are : tablesAfter (tablesOf n (s .network)) cs ≡ tablesOf n (stateAfter n s cs .network)
-  pub network-is : load n (tablesAfter (tablesOf n (s .network)) cs) ≡ stateAfter n s cs .network
-  pub steady : Steady n (stateAfter n s cs .network)
-  pub promise : Promise n (stateAfter n s cs)
+  pub answers-are : sayAll tablesLeft saidOn (tablesOf n (s .network)) cs ≡ sayAll (called n) (saidTo n) s cs
+  pub tables-are : afterAll tablesLeft (tablesOf n (s .network)) cs ≡ tablesOf n (afterAll (called n) s cs .network)
+  pub network-is : load n (afterAll tablesLeft (tablesOf n (s .network)) cs) ≡ afterAll (called n) s cs .network
+  pub steady : Steady n (afterAll (called n) s cs .network)
+  pub promise : Promise n (afterAll (called n) s cs)
 
 same-run : (n : ℕ) → 1 ≤ n → n ≤ 16 → (s : State) → Good n s → (cs : List EventCall) → SameRun n s cs
-unfolding saidByTables tablesAfter saidByMeaning stateAfter
 same-run n low few s g [] =
     record {
       answers-are = refl;
@@ -102,9 +104,9 @@ same-run n low few s g (c ∷ cs) =
     let one = one-call n low few s g c in
     let more = same-run n low few (called n s c) (call-good n low few s g c) cs in
     record {
-      answers-are = rw (one, more .answers-are);
-      tables-are = rw one (more .tables-are);
-      network-is = rw one (more .network-is);
+      answers-are = rw (tablesLeft, saidOn, one, more .answers-are);
+      tables-are = rw (tablesLeft, one) (more .tables-are);
+      network-is = rw (tablesLeft, one) (more .network-is);
       steady = more .steady;
       promise = more .promise;
     }

@@ -22,9 +22,9 @@ use Rattle.basics.proofs.FunctionsLaws.{every-at}
 use Rattle.tables.specs.Cell.{count, appended, taken, emptied}
 use Rattle.tables.specs.Tables.{cellWidth, channelOf, putChannel}
 use Rattle.tables.proofs.RowsLaws.{channel-length, channel-put, channel-put-length, channel-other}
-use Rattle.election.specs.Cells.{CellsAre, Takes, cellsOf, clearedCells, sentCells, roomFor}
-use Rattle.election.specs.declared.Kind.{Kind}
 use Rattle.election.specs.declared.Kind.the-variants.{Raised, Dropped, Received}
+use Rattle.election.specs.declared.Kind.{Kind}
+use Rattle.election.specs.inner.Cells.{CellsAre, Takes, cellsOf, clearedCells, sentCells, roomFor}
 use Rattle.election.proofs.SetChanges.{without}
 
 -- ---- lengths of cells

@@ -1,7 +1,4 @@
--- The three events on lent tables: StepOn says what they answer and leave, by the meaning alone.
--- Assumes nothing: these are definitions.
+-- The three events on lent tables: StepOn says what they answer and leave, by the meaning alone, RunOn the same of lists of calls.
 pub mod StepOn
-pub mod Cells
-pub mod Finish
-pub mod Written
 pub mod RunOn
+pub mod inner

@@ -1,9 +1,9 @@
 -- Lists of event calls, each with its own n, on lent tables and on a network of n nodes: document 01, "Lists of calls".
--- On both sides the answers of all calls, oldest first, and what is left; a call with another n is refused with 1.
+-- Of one call; `afterAll` and `sayAll` of the crate `basics` make lists of it.
 use Prim.Native.Nat.{ℕ}
 use mathlib.Core.Bool.{cond}
-use mathlib.Core.List.{List, [], _∷_}
 use lib.Dec.{eqb}
+use Rattle.refusal.specs.Refusal.{why}
 use Rattle.protocol.specs.Answer.{Said, saidRefused}
 use Rattle.calls.specs.History.{State, advance}
 use Rattle.protocol.specs.Refusal.{answer}
@@ -16,28 +16,18 @@ pub record EventCall : Type 0 where
   pub size : ℕ
   pub event : Event
 
--- ---- on tables
+-- ---- on tables: what an event leaves, and what it says
 
-unfoldable pub tablesAfter : Tables → List EventCall → Tables
-tablesAfter t [] = t
-tablesAfter t (c ∷ cs) = tablesAfter (stepOn (c .size) (c .event) t .after) cs
+abbrev pub tablesLeft : Tables → EventCall → Tables
+tablesLeft t c = stepOn (c .size) (c .event) t .after
 
-unfoldable pub saidByTables : Tables → List EventCall → List Said
-saidByTables t [] = []
-saidByTables t (c ∷ cs) = stepOn (c .size) (c .event) t .said ∷ saidByTables (stepOn (c .size) (c .event) t .after) cs
+abbrev pub saidOn : Tables → EventCall → Said
+saidOn t c = stepOn (c .size) (c .event) t .said
 
--- ---- by the meaning
+-- ---- by the meaning: an event with another n is refused with 1
 
 abbrev pub called : ℕ → State → EventCall → State
 called n s c = cond (eqb (c .size) n) (advance n s (c .event)) s
 
 abbrev pub saidTo : ℕ → State → EventCall → Said
-saidTo n s c = cond (eqb (c .size) n) (answer n (s .network) (c .event)) (saidRefused 1 0 0)
-
-unfoldable pub stateAfter : ℕ → State → List EventCall → State
-stateAfter n s [] = s
-stateAfter n s (c ∷ cs) = stateAfter n (called n s c) cs
-
-unfoldable pub saidByMeaning : ℕ → State → List EventCall → List Said
-saidByMeaning n s [] = []
-saidByMeaning n s (c ∷ cs) = saidTo n s c ∷ saidByMeaning n (called n s c) cs
+saidTo n s c = cond (eqb (c .size) n) (answer n (s .network) (c .event)) (saidRefused (why 1 0 0))

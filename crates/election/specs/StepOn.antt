@@ -3,28 +3,22 @@
 use Prim.Native.Nat.{ℕ}
 use mathlib.Core.Bool.{cond}
 use lib.Dec.{eqb}
-use Rattle.lent.specs.Check.{SaidCheck, checkOn}
+use Rattle.refusal.specs.declared.Why.{Why}
+use Rattle.refusal.specs.Outcome.{outcome, Outcome}
+use Rattle.lent.specs.Check.{checkOn}
 use Rattle.protocol.specs.Answer.{Said, saidRefused}
 use Rattle.protocol.specs.Refusal.{answer, next}
 use Rattle.protocol.specs.Step.{Event}
 use Rattle.tables.specs.Load.{load, tablesOf}
 use Rattle.tables.specs.Tables.{Tables}
 
--- what an event says, and the tables after it
-pub record Outcome : Type 0 where
-  pub said : Said
-  pub after : Tables
-
-abbrev pub outcome : Said → Tables → Outcome
-outcome s t = record { said = s; after = t }
-
 -- 3 to 9, or carried out
-unfoldable pub stepAt : ℕ → Event → Tables → Outcome
+unfoldable pub stepAt : ℕ → Event → Tables → Outcome Said Tables
 stepAt n e t = outcome (answer n (load n t) e) (tablesOf n (next n (load n t) e))
 
 -- by what the check of the tables says: 1 or 2, else on
-unfoldable pub stepChecked : ℕ → Event → Tables → SaidCheck → Outcome
-stepChecked n e t c = cond (eqb (c .number) 0) (stepAt n e t) (outcome (saidRefused (c .number) (c .faultAt) (c .faultWith)) t)
+unfoldable pub stepChecked : ℕ → Event → Tables → Why → Outcome Said Tables
+stepChecked n e t c = cond (eqb (c .number) 0) (stepAt n e t) (outcome (saidRefused c) t)
 
-unfoldable pub stepOn : ℕ → Event → Tables → Outcome
+unfoldable pub stepOn : ℕ → Event → Tables → Outcome Said Tables
 stepOn n e t = stepChecked n e t (checkOn n t)

@@ -1,17 +1,26 @@
-// The events on tables that passed the check: node numbers (3), the channel (4, 5, 6), the clock (7), then the rule and its end.
-// Assumes the bounds that each `requires` states.
+// The events on tables that passed the check: node numbers (3), then what is decided by reading alone, the channel (4, 5, 6), the clock (7)
+// and the rule, then its end.
 ghost use mathlib.Core.Path.{_≡_};
-ghost use mathlib.Core.Bool.{_||_};
+ghost use mathlib.Core.Bool.{true, false, not, _&&_, _||_};
+ghost use mathlib.Core.List.{List};
+ghost use Prim.Native.Nat.{ℕ, _≤_};
+ghost use lib.Dec.{eqb};
+ghost use lib.ListN.{length};
+ghost use Rattle.refusal.specs.Outcome.{outcome};
 ghost use Rattle.height.specs.Height.{zeroHeight};
 ghost use Rattle.height.specs.Words.{Negated};
 ghost use Rattle.nodeset.specs.NodeSet.{member};
 ghost use Rattle.protocol.specs.Answer.{said};
-ghost use Rattle.protocol.specs.Step.{up, down, receive};
-ghost use Rattle.tables.specs.Fit.{TablesFit};
-ghost use Rattle.tables.specs.Tables.{given, atEntry, atExit};
-ghost use Rattle.election.specs.Finish.{Between, Ignores, Hears, named};
-ghost use Rattle.election.specs.StepOn.{outcome, stepAt};
+ghost use Rattle.protocol.specs.Network.{Node, isNode};
+ghost use Rattle.tables.specs.Cell.{count};
+ghost use Rattle.tables.specs.Fit.{RowFits, TablesFit};
+ghost use Rattle.tables.specs.Row.{neighborsIn, formingIn};
+ghost use Rattle.tables.specs.Tables.{cellWidth, given, atEntry, atExit, tables};
+ghost use Rattle.election.specs.StepOn.{stepAt};
+ghost use Rattle.election.specs.inner.Deciding.{eventOf, Between, Decides, DecidesBy};
+use super::Decided;
 use super::Kind;
+use decision::Decision;
 use height::Height;
 use height::LeaderPair;
 use height::Moved;
@@ -19,14 +28,14 @@ use height::NegatedTime;
 use height::ReferenceLevel;
 use height::Time;
 use protocol::Answer;
-use protocol::Refusal;
+use refusal::Refusal;
 use protocol::Rule;
 
 // Two nodes of the network, not the same.
 fn are_named(n: u32, u: u32, v: u32) -> bool
-    ensures { λ r. ⌜ r ≡ named n u v ⌝ }
+    ensures { λ r. ⌜ r ≡ (isNode n u && isNode n v && not (eqb u v)) ⌝ }
 {
-    (1 <= u) & (u <= n) & (1 <= v) & (v <= n) & (u != v)
+    ((1 <= u) & (u <= n)) & ((1 <= v) & (v <= n)) & (u != v)
 }
 
 // All zero: no view.
@@ -57,179 +66,144 @@ fn is_up(neighbors: u16, forming: u16, v: u32) -> bool
     nodeset::contains(neighbors, v) | nodeset::contains(forming, v)
 }
 
-// ---- up
+// ---- what is decided, from the node's row and, of a receipt, the channel's cell
 
-fn up_at(n: u32, u: u32, v: u32, nodes: &mut [u32], channels: &mut [u32]) -> Answer
-    requires { ⌜ Between n (given nodes channels) u v ⌝ }
-    ensures { λ r. ⌜ outcome (said r) (atExit nodes channels) ≡ stepAt n (up u v) (atEntry nodes channels) ⌝ }
+// Up: v joins F. Rule U.
+fn decide_up(n: u32, v: u32, row: &[u32]) -> Decided
+    requires { ⌜ (n ≤ 16) × Node n v × RowFits n (now row) ⌝ }
+    ensures { λ r. ⌜ ((u : ℕ) (cell : List ℕ) → DecidesBy Kind.Raised n u v (now (row .entry)) cell r) ⌝ }
 {
-    let row = tables::rows::node(n, u, nodes);
     let neighbors = tables::rows::neighbors(row);
-    let forming = tables::rows::forming(row);
-    if is_up(neighbors, forming, v) {
-        return Answer::Refused(Refusal::AlreadyUp);
+    let linking = tables::rows::forming(row);
+    if is_up(neighbors, linking, v) {
+        return Decided::Refused(Refusal::AlreadyUp);
     }
-    let clock = tables::rows::clock(row);
+    let Moved::To(clock) = tables::rows::clock(row).after(Time(0)) else {
+        return Decided::Refused(Refusal::ClockEnd);
+    };
+    let forming = nodeset::insert(linking, v);
     let view = tables::rows::height_in(n, row, v);
-    let Moved::To(t) = clock.after(Time(0)) else {
-        return Answer::Refused(Refusal::ClockEnd);
-    };
-    let joined = nodeset::insert(forming, v);
-    super::finish::finish(
-        Kind::Raised,
-        n,
-        u,
-        v,
-        t,
-        neighbors,
-        joined,
-        view,
-        Rule::ChannelUp,
-        nodes,
-        channels,
-    )
-}
-
-pub fn up_named(n: u32, u: u32, v: u32, nodes: &mut [u32], channels: &mut [u32]) -> Answer
-    requires { ⌜ TablesFit n (given nodes channels) ⌝ }
-    ensures { λ r. ⌜ outcome (said r) (atExit nodes channels) ≡ stepAt n (up u v) (atEntry nodes channels) ⌝ }
-{
-    if are_named(n, u, v) {
-        return up_at(n, u, v, nodes, channels);
-    }
-    Answer::Refused(Refusal::NodeNumber)
-}
-
-// ---- down
-
-fn down_at(n: u32, u: u32, v: u32, nodes: &mut [u32], channels: &mut [u32]) -> Answer
-    requires { ⌜ Between n (given nodes channels) u v ⌝ }
-    ensures { λ r. ⌜ outcome (said r) (atExit nodes channels) ≡ stepAt n (down u v) (atEntry nodes channels) ⌝ }
-{
-    let row = tables::rows::node(n, u, nodes);
-    let neighbors = tables::rows::neighbors(row);
-    let forming = tables::rows::forming(row);
-    if !is_up(neighbors, forming, v) {
-        return Answer::Refused(Refusal::AlreadyDown);
-    }
-    let clock = tables::rows::clock(row);
-    let Moved::To(t) = clock.after(Time(0)) else {
-        return Answer::Refused(Refusal::ClockEnd);
-    };
-    let linked = nodeset::remove(neighbors, v);
-    let left = nodeset::remove(forming, v);
-    let view = no_view();
-    let rule = decision::rule::of_down(n, linked, row, v, view, u);
-    super::finish::finish(
-        Kind::Dropped,
-        n,
-        u,
-        v,
-        t,
-        linked,
-        left,
-        view,
+    let rule = Rule::ChannelUp;
+    Decided::As(Decision {
         rule,
-        nodes,
-        channels,
-    )
-}
-
-pub fn down_named(n: u32, u: u32, v: u32, nodes: &mut [u32], channels: &mut [u32]) -> Answer
-    requires { ⌜ TablesFit n (given nodes channels) ⌝ }
-    ensures { λ r. ⌜ outcome (said r) (atExit nodes channels) ≡ stepAt n (down u v) (atEntry nodes channels) ⌝ }
-{
-    if are_named(n, u, v) {
-        return down_at(n, u, v, nodes, channels);
-    }
-    Answer::Refused(Refusal::NodeNumber)
-}
-
-// ---- receive
-
-// A message from a node in neither set: rule I.
-fn ignore(n: u32, v: u32, u: u32, nodes: &mut [u32], channels: &mut [u32]) -> Answer
-    requires { ⌜ Between n (given nodes channels) u v × Ignores n (given nodes channels) u v ⌝ }
-    ensures { λ r. ⌜ outcome (said r) (atExit nodes channels) ≡ stepAt n (receive v u) (atEntry nodes channels) ⌝ }
-{
-    let row = tables::rows::node(n, u, nodes);
-    let neighbors = tables::rows::neighbors(row);
-    let forming = tables::rows::forming(row);
-    let clock = tables::rows::clock(row);
-    let view = tables::rows::height_in(n, row, v);
-    let Moved::To(t) = clock.after(Time(0)) else {
-        return Answer::Refused(Refusal::ClockEnd);
-    };
-    super::finish::finish(
-        Kind::Received,
-        n,
-        u,
-        v,
-        t,
+        clock,
         neighbors,
         forming,
         view,
-        Rule::Ignored,
-        nodes,
-        channels,
-    )
+    })
+}
+
+// Down: v leaves both sets, its view is forgotten.
+fn decide_down(n: u32, u: u32, v: u32, row: &[u32]) -> Decided
+    requires { ⌜ (n ≤ 16) × Node n u × Node n v × RowFits n (now row) ⌝ }
+    ensures { λ r. ⌜ ((cell : List ℕ) → DecidesBy Kind.Dropped n u v (now (row .entry)) cell r) ⌝ }
+{
+    let linked = tables::rows::neighbors(row);
+    let linking = tables::rows::forming(row);
+    if !is_up(linked, linking, v) {
+        return Decided::Refused(Refusal::AlreadyDown);
+    }
+    let Moved::To(clock) = tables::rows::clock(row).after(Time(0)) else {
+        return Decided::Refused(Refusal::ClockEnd);
+    };
+    let neighbors = nodeset::remove(linked, v);
+    let forming = nodeset::remove(linking, v);
+    let view = no_view();
+    let rule = decision::rule::of_down(n, neighbors, row, v, view, u);
+    Decided::As(Decision {
+        rule,
+        clock,
+        neighbors,
+        forming,
+        view,
+    })
+}
+
+// A message from a node in neither set: the clock moves. Rule I.
+fn decide_ignored(n: u32, v: u32, row: &[u32]) -> Decided
+    requires { ⌜ (n ≤ 16) × Node n v × RowFits n (now row) × ((member (neighborsIn (now row)) v || member (formingIn (now row)) v) ≡ false) ⌝ }
+    ensures { λ r. ⌜ ((u : ℕ) (cell : List ℕ) → 1 ≤ count cell → DecidesBy Kind.Received n u v (now (row .entry)) cell r) ⌝ }
+{
+    let neighbors = tables::rows::neighbors(row);
+    let forming = tables::rows::forming(row);
+    let Moved::To(clock) = tables::rows::clock(row).after(Time(0)) else {
+        return Decided::Refused(Refusal::ClockEnd);
+    };
+    let view = tables::rows::height_in(n, row, v);
+    let rule = Rule::Ignored;
+    Decided::As(Decision {
+        rule,
+        clock,
+        neighbors,
+        forming,
+        view,
+    })
 }
 
 // A message from a node in one of the sets: it joins N, leaves F, and its view is stored.
-fn hear(n: u32, v: u32, u: u32, nodes: &mut [u32], channels: &mut [u32]) -> Answer
-    requires { ⌜ Between n (given nodes channels) u v × Hears n (given nodes channels) u v ⌝ }
-    ensures { λ r. ⌜ outcome (said r) (atExit nodes channels) ≡ stepAt n (receive v u) (atEntry nodes channels) ⌝ }
+fn decide_heard(n: u32, u: u32, v: u32, row: &[u32], cell: &[u32]) -> Decided
+    requires { ⌜ (n ≤ 16) × Node n u × Node n v × RowFits n (now row) × (length (now cell) ≡ cellWidth) × (1 ≤ count (now cell))
+        × ((member (neighborsIn (now row)) v || member (formingIn (now row)) v) ≡ true) ⌝ }
+    ensures { λ r. ⌜ DecidesBy Kind.Received n u v (now (row .entry)) (now (cell .entry)) r ⌝ }
 {
-    let row = tables::rows::node(n, u, nodes);
-    let cell = tables::rows::channel(n, v, u, channels);
-    let view = tables::cells::nth_height(cell, 0);
-    let stamp = tables::cells::nth_timestamp(cell, 0);
-    let clock = tables::rows::clock(row);
-    let Moved::To(t) = clock.after(stamp) else {
-        return Answer::Refused(Refusal::ClockEnd);
-    };
     let linked = tables::rows::neighbors(row);
+    let linking = tables::rows::forming(row);
+    let stamp = tables::cells::nth_timestamp(cell, 0);
+    let Moved::To(clock) = tables::rows::clock(row).after(stamp) else {
+        return Decided::Refused(Refusal::ClockEnd);
+    };
     let neighbors = nodeset::insert(linked, v);
-    let forming = nodeset::remove(tables::rows::forming(row), v);
+    let forming = nodeset::remove(linking, v);
+    let view = tables::cells::nth_height(cell, 0);
     let rule = decision::rule::of_receipt(n, neighbors, row, u, v, view);
-    super::finish::finish(
-        Kind::Received,
-        n,
-        u,
-        v,
-        t,
+    Decided::As(Decision {
+        rule,
+        clock,
         neighbors,
         forming,
         view,
-        rule,
-        nodes,
-        channels,
-    )
+    })
 }
 
-fn receive_at(n: u32, v: u32, u: u32, nodes: &mut [u32], channels: &mut [u32]) -> Answer
+fn decide_receipt(n: u32, u: u32, v: u32, row: &[u32], cell: &[u32]) -> Decided
+    requires { ⌜ (n ≤ 16) × Node n u × Node n v × RowFits n (now row) × (length (now cell) ≡ cellWidth) ⌝ }
+    ensures { λ r. ⌜ DecidesBy Kind.Received n u v (now (row .entry)) (now (cell .entry)) r ⌝ }
+{
+    if tables::cells::waiting(cell) == 0 {
+        return Decided::Refused(Refusal::NoMessage);
+    }
+    if is_up(tables::rows::neighbors(row), tables::rows::forming(row), v) {
+        return decide_heard(n, u, v, row, cell);
+    }
+    decide_ignored(n, v, row)
+}
+
+fn decide(kind: Kind, n: u32, u: u32, v: u32, nodes: &[u32], channels: &[u32]) -> Decided
     requires { ⌜ Between n (given nodes channels) u v ⌝ }
-    ensures { λ r. ⌜ outcome (said r) (atExit nodes channels) ≡ stepAt n (receive v u) (atEntry nodes channels) ⌝ }
+    ensures { λ r. ⌜ Decides kind n (tables (now (nodes .entry)) (now (channels .entry))) u v r ⌝ }
 {
     let row = tables::rows::node(n, u, nodes);
-    let neighbors = tables::rows::neighbors(row);
-    let forming = tables::rows::forming(row);
-    let waiting = tables::cells::waiting(tables::rows::channel(n, v, u, channels));
-    if waiting == 0 {
-        return Answer::Refused(Refusal::NoMessage);
+    match kind {
+        Kind::Raised => decide_up(n, v, row),
+        Kind::Dropped => decide_down(n, u, v, row),
+        Kind::Received => {
+            let cell = tables::rows::channel(n, v, u, channels);
+            decide_receipt(n, u, v, row, cell)
+        }
     }
-    if is_up(neighbors, forming, v) {
-        return hear(n, v, u, nodes, channels);
-    }
-    ignore(n, v, u, nodes, channels)
 }
 
-pub fn receive_named(n: u32, v: u32, u: u32, nodes: &mut [u32], channels: &mut [u32]) -> Answer
+// ---- the event of this kind at u with v
+
+pub fn event(kind: Kind, n: u32, u: u32, v: u32, nodes: &mut [u32], channels: &mut [u32]) -> Answer
     requires { ⌜ TablesFit n (given nodes channels) ⌝ }
-    ensures { λ r. ⌜ outcome (said r) (atExit nodes channels) ≡ stepAt n (receive v u) (atEntry nodes channels) ⌝ }
+    ensures { λ r. ⌜ outcome (said r) (atExit nodes channels) ≡ stepAt n (eventOf kind u v) (atEntry nodes channels) ⌝ }
 {
-    if are_named(n, u, v) {
-        return receive_at(n, v, u, nodes, channels);
+    if !are_named(n, u, v) {
+        return Answer::Refused(Refusal::NodeNumber);
     }
-    Answer::Refused(Refusal::NodeNumber)
+    match decide(kind, n, u, v, nodes, channels) {
+        Decided::As(d) => super::finish::finish(kind, n, u, v, d, nodes, channels),
+        Decided::Refused(why) => Answer::Refused(why),
+    }
 }

@@ -1,86 +1,65 @@
-// The end of every event, atExit its rule is chosen: the depth (8), room (9), then everything is written at once.
-// Assumes the bounds that each `requires` states.
+// The end of every event, atExit its rule is chosen: the depth (8), room (9), then everything is written.
 ghost use mathlib.Core.Path.{_≡_};
-ghost use Rattle.decision.specs.After.{AdoptsNode};
+ghost use Prim.Native.Nat.{_*_, _≤_};
+ghost use lib.ListN.{length};
+ghost use Rattle.refusal.specs.Outcome.{outcome};
 ghost use Rattle.height.specs.Words.{Negated};
 ghost use Rattle.protocol.specs.Answer.{said};
-ghost use Rattle.tables.specs.Tables.{given, atEntry, atExit};
-ghost use Rattle.election.specs.Finish.{eventOf, localOf, finished, Chosen};
-ghost use Rattle.election.specs.StepOn.{outcome};
-ghost use Rattle.election.specs.Written.{Writes, Written};
+ghost use Rattle.protocol.specs.Network.{Node};
+ghost use Rattle.tables.specs.Tables.{width, given, atEntry, atExit, nodeOf, putNode};
+ghost use Rattle.election.specs.StepOn.{stepAt};
+ghost use Rattle.election.specs.inner.Deciding.{eventOf, Ready, rowAfter};
 use super::Kind;
 use decision::After;
+use decision::Decision;
 use height::Height;
-use height::Time;
 use protocol::Answer;
-use protocol::Refusal;
-use protocol::Rule;
+use refusal::Refusal;
 
-// The row of u and the channels, written: what the event clears, then u's row, then its height to the set.
-fn write(
-    kind: Kind,
-    n: u32,
-    u: u32,
-    v: u32,
-    t: Time,
-    neighbors: u16,
-    forming: u16,
-    view: Height,
-    own: Height,
-    to: u16,
-    nodes: &mut [u32],
-    channels: &mut [u32],
-)
-    requires { ⌜ Writes kind n (given nodes channels) u v neighbors forming view own to ⌝ }
-    ensures { λ _. ⌜ Written kind n u v (t .0) neighbors forming view own to (atEntry nodes channels) (atExit nodes channels) ⌝ }
+// u's row atExit the event: its view of v, its own height, the clock and both sets.
+fn write_row(n: u32, u: u32, v: u32, d: Decision, own: Height, row: &mut [u32])
+    requires { ⌜ (n ≤ 16) × Node n u × Node n v × (length (now row) ≡ width n) × Negated (d .view .pair .nlts .0) × Negated (own .pair .nlts .0) ⌝ }
+    ensures { λ _. ⌜ now (row .exit) ≡ rowAfter (now (row .entry)) u v d own ⌝ }
 {
-    super::sending::clear_channel(kind, n, u, v, channels);
-    let a = tables::rows::node_start(n, u);
-    let e = a + (3 + 7 * (n as usize));
-    tables::rows::write_row(n, &mut nodes[a..e], t, neighbors, forming, v, view, u, own);
-    super::sending::send_all(n, u, to, own, t, channels);
+    tables::rows::put_height(n, row, v, d.view);
+    tables::rows::put_height(n, row, u, own);
+    tables::rows::put_head(row, d.clock, d.neighbors, d.forming);
 }
 
-// The event of this kind at u with v, at the moved clock t, with u's new sets, its view of v and the rule.
+fn write_node(n: u32, u: u32, v: u32, d: Decision, own: Height, nodes: &mut [u32])
+    requires { ⌜ (n ≤ 16) × Node n u × Node n v × (length (now nodes) ≡ n * width n)
+        × Negated (d .view .pair .nlts .0) × Negated (own .pair .nlts .0) ⌝ }
+    ensures { λ _. ⌜ now (nodes .exit) ≡ putNode n u (rowAfter (nodeOf n u (now (nodes .entry))) u v d own) (now (nodes .entry)) ⌝ }
+{
+    let a = tables::rows::node_start(n, u);
+    let e = a + (3 + 7 * (n as usize));
+    write_row(n, u, v, d, own, &mut nodes[a..e]);
+}
+
+// The event of this kind at u with v, as it was decided.
 pub fn finish(
     kind: Kind,
     n: u32,
     u: u32,
     v: u32,
-    t: Time,
-    neighbors: u16,
-    forming: u16,
-    view: Height,
-    rule: Rule,
+    d: Decision,
     nodes: &mut [u32],
     channels: &mut [u32],
 ) -> Answer
-    requires { ⌜ Chosen kind n (given nodes channels) u v neighbors forming rule × Negated (view .pair .nlts .0) × AdoptsNode n rule ⌝ }
-    ensures { λ r. ⌜ outcome (said r) (atExit nodes channels) ≡ finished n (eventOf kind u v)
-        (localOf n (atEntry nodes channels) u v (t .0) neighbors forming view rule) (atEntry nodes channels) ⌝ }
+    requires { ⌜ Ready kind n (given nodes channels) u v d ⌝ }
+    ensures { λ r. ⌜ outcome (said r) (atExit nodes channels) ≡ stepAt n (eventOf kind u v) (atEntry nodes channels) ⌝ }
 {
     let row = tables::rows::node(n, u, nodes);
-    let After::New(own) = decision::outcome::height_after(n, neighbors, row, v, view, u, t, rule)
-    else {
+    let After::New(own) = decision::outcome::height_after(n, row, u, v, d) else {
         return Answer::Refused(Refusal::DeltaEnd);
     };
-    let to = decision::outcome::sent_to(rule, neighbors, forming, v);
-    if super::sending::has_room(n, u, to, channels) {
-        write(
-            kind,
-            n,
-            u,
-            v,
-            t,
-            neighbors,
-            forming,
-            view,
-            own,
-            to,
-            nodes,
-            channels,
-        );
-        return Answer::Done(rule, to);
+    let to = decision::outcome::sent_to(d, v);
+    if !super::sending::has_room(n, u, to, channels) {
+        return Answer::Refused(Refusal::ChannelFull);
     }
-    Answer::Refused(Refusal::ChannelFull)
+    super::sending::clear_channel(kind, n, u, v, channels);
+    write_node(n, u, v, d, own, nodes);
+    super::sending::send_all(n, u, to, own, d.clock, channels);
+    let rule = d.rule;
+    Answer::Done(rule, to)
 }

@@ -1,5 +1,4 @@
 // Channels: room for a set, what an event clears, and a height sent to every node of a set.
-// Assumes the bounds that each `requires` states.
 ghost use mathlib.Core.Path.{_≡_};
 ghost use mathlib.Core.Bool.{true};
 ghost use Prim.Native.Nat.{_*_, _≤_, _<_, _^_};
@@ -9,7 +8,7 @@ ghost use Rattle.protocol.specs.Network.{Node};
 ghost use Rattle.basics.specs.Functions.{every};
 ghost use Rattle.tables.specs.Cell.{count, appended};
 ghost use Rattle.tables.specs.Tables.{cellWidth, channelOf, putChannel};
-ghost use Rattle.election.specs.Cells.{CellsAre, clearedCells, cellsOf, sentCells, roomFor, Takes};
+ghost use Rattle.election.specs.inner.Cells.{CellsAre, clearedCells, cellsOf, sentCells, roomFor, Takes};
 use super::Kind;
 use height::Height;
 use height::Time;

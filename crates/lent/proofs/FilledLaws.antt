@@ -23,11 +23,11 @@ use Rattle.basics.proofs.FunctionsLaws.{update-at, update-off}
 use Rattle.tables.specs.Fit.{RowFits, TablesFit}
 use Rattle.tables.specs.Cell.{emptied, queue}
 use Rattle.tables.specs.Load.{load, tablesOf, clockAt, neighborsAt, formingAt, heightsAt, messagesOn}
-use Rattle.tables.specs.Row.{clockIn, neighborsIn, formingIn, heightIn, rowWith}
+use Rattle.tables.specs.Row.{clockIn, neighborsIn, formingIn, heightIn, putHeight}
 use Rattle.tables.specs.Rows.{rowAt}
 use Rattle.tables.specs.Tables.{Tables, tables, sized, Sized, width, cellWidth, nodeOf, putNode, pairOf, channelOf}
 use Rattle.tables.proofs.CellLaws.{emptied-fits, queue-emptied}
-use Rattle.tables.proofs.RowLaws.{with-fits, with-clock, with-neighbors, with-forming, with-heights}
+use Rattle.tables.proofs.RowLaws.{put-word, put-heights, put-fits}
 use Rattle.tables.proofs.RowsLaws.{row-fits, pair-lt, node-length, node-put, node-other, node-put-length, part-row, changed-row}
 use Rattle.tables.proofs.TablesLaws.{tables-back}
 use Rattle.tables.proofs.WordRuns.{part-run, run-zero}
@@ -69,52 +69,30 @@ zero-heights n (suc k) =
 
 -- zero words but the node's own height
 unfoldable pub freshRow : ℕ → ℕ → List ℕ
-freshRow n u = rowWith (replicate (width n) 0) 0 0 0 u (freshHeight u) u (freshHeight u)
+freshRow n u = putHeight (replicate (width n) 0) u (freshHeight u)
 
 fresh-wordy : (u : ℕ) → Wordy (freshHeight u)
 fresh-wordy u = record { delta = omega arith; nlts = refl }
 
-module _ (n i : ℕ) (inside : i < n) where
-  pub fresh-fits : RowFits n (freshRow n (suc i))
+module _ (n u : ℕ) (a : Node n u) where
+  pub fresh-fits : RowFits n (freshRow n u)
   unfolding freshRow
-  fresh-fits =
-      with-fits n (replicate (width n) 0) (zero-fits n) 0 0 0 i i inside inside (freshHeight (suc i)) (freshHeight (suc i))
-      (fresh-wordy (suc i)) (fresh-wordy (suc i)) (pow-pos n) (pow-pos n)
+  fresh-fits = put-fits n (replicate (width n) 0) (zero-fits n) u a (freshHeight u) (fresh-wordy u)
 
-  fresh-clock : clockIn (freshRow n (suc i)) ≡ 0
+  fresh-word : (j : ℕ) → j < 3 → getD (freshRow n u) j 0 ≡ 0
   unfolding freshRow
-  fresh-clock =
-      with-clock n (replicate (width n) 0) (zero-fits n) 0 0 0 i i inside inside (freshHeight (suc i)) (freshHeight (suc i))
-      (fresh-wordy (suc i)) (fresh-wordy (suc i))
+  fresh-word j l = put-word (replicate (width n) 0) u (freshHeight u) j l ∙ zero-word (width n) j
 
-  fresh-neighbors : neighborsIn (freshRow n (suc i)) ≡ 0
-  unfolding freshRow
-  fresh-neighbors =
-      with-neighbors n (replicate (width n) 0) (zero-fits n) 0 0 0 i i inside inside (freshHeight (suc i)) (freshHeight (suc i))
-      (fresh-wordy (suc i)) (fresh-wordy (suc i))
-
-  fresh-forming : formingIn (freshRow n (suc i)) ≡ 0
-  unfolding freshRow
-  fresh-forming =
-      with-forming n (replicate (width n) 0) (zero-fits n) 0 0 0 i i inside inside (freshHeight (suc i)) (freshHeight (suc i))
-      (fresh-wordy (suc i)) (fresh-wordy (suc i))
-
-  fresh-heights : heightIn (freshRow n (suc i)) ≡ fresh .height (suc i)
+  fresh-heights : heightIn (freshRow n u) ≡ fresh .height u
   unfolding freshRow
   fresh-heights =
-      with-heights n (replicate (width n) 0) (zero-fits n) 0 0 0 i i inside inside (freshHeight (suc i)) (freshHeight (suc i))
-      (fresh-wordy (suc i)) (fresh-wordy (suc i))
-      ∙ fun-ext (λ z. at z (equal? z (suc i)))
+      put-heights n (replicate (width n) 0) (zero-fits n .wide) u a (freshHeight u) (fresh-wordy u) ∙ fun-ext (λ z. at z (equal? z u))
     where
-      once : ℕ → Height
-      once = update (heightIn (replicate (width n) 0)) (suc i) (freshHeight (suc i))
-
-      at : (z : ℕ) → (z ≡ suc i) ⊎ (z ≡ suc i → ⊥)
-          → update once (suc i) (freshHeight (suc i)) z ≡ cond (eqb (suc i) z) (freshHeight (suc i)) zeroHeight
-      at z (inl e) = rw (e, update-at once (suc i) (freshHeight (suc i)), eq-eqb (suc i) (suc i) refl)
+      at : (z : ℕ) → (z ≡ u) ⊎ (z ≡ u → ⊥)
+          → update (heightIn (replicate (width n) 0)) u (freshHeight u) z ≡ cond (eqb u z) (freshHeight u) zeroHeight
+      at z (inl e) = rw (e, update-at (heightIn (replicate (width n) 0)) u (freshHeight u), eq-eqb u u refl)
       at z (inr d) =
-          rw (update-off once (suc i) (freshHeight (suc i)) z d, ne-eqb (suc i) z (λ e. d (sym e)))
-          (update-off (heightIn (replicate (width n) 0)) (suc i) (freshHeight (suc i)) z d ∙ zero-heights n z)
+          rw (ne-eqb u z (λ e. d (sym e))) (update-off (heightIn (replicate (width n) 0)) u (freshHeight u) z d ∙ zero-heights n z)
 
 -- ---- tables of fresh rows and empty cells
 
@@ -127,9 +105,8 @@ pairs-are n f g h = same-pairs n f g g h ∙ pairs-is n g g (λ u v d. refl) (λ
 module _ (n : ℕ) (t : Tables) (size : Sized n t) (rows-are : (u : ℕ) → Node n u → nodeOf n u (t .nodes) ≡ freshRow n u)
     (cells-are : (u v : ℕ) → Node n u → Node n v → channelOf n u v (t .channels) ≡ emptied) where
   -- what holds of a fresh row holds of each node's row
-  at-row : (P : ℕ → List ℕ → Type 0) → ((i : ℕ) → i < n → P (suc i) (freshRow n (suc i))) → (u : ℕ) → Node n u → P u (nodeOf n u (t .nodes))
-  at-row P h zero a = absurd (omega (arith, a .low))
-  at-row P h (suc i) a = rw (rows-are (suc i) a) (h i (a .high))
+  at-row : (P : ℕ → List ℕ → Type 0) → ((u : ℕ) → Node n u → P u (freshRow n u)) → (u : ℕ) → Node n u → P u (nodeOf n u (t .nodes))
+  at-row P h u a = rw (rows-are u a) (h u a)
 
   pub fresh-tables-fit : TablesFit n t
   fresh-tables-fit = record {
@@ -138,14 +115,18 @@ module _ (n : ℕ) (t : Tables) (size : Sized n t) (rows-are : (u : ℕ) → Nod
     cells = λ u v a b. rw (cells-are u v a b) emptied-fits;
   }
 
+  -- a set of a fresh row holds no node
+  no-node : (u j : ℕ) → Node n u → j < 3 → member (getD (freshRow n u) j 0) ≡ (λ v. false)
+  no-node u j a l = ap member (fresh-word n u a j l) ∙ fun-ext none-in-zero
+
   pub fresh-loaded : load n t ≡ fresh
   unfolding load
   fresh-loaded = λ i. record {
-    clock = nodes-are n (clockAt n t) (fresh .clock) (at-row (λ u row. clockIn row ≡ 0) (fresh-clock n)) i;
+    clock = nodes-are n (clockAt n t) (fresh .clock) (at-row (λ u row. clockIn row ≡ 0) (λ u a. fresh-word n u a 0 (omega arith))) i;
     neighbors = nodes-are n (neighborsAt n t) (fresh .neighbors)
-        (at-row (λ u row. member (neighborsIn row) ≡ (λ v. false)) (λ j l. ap member (fresh-neighbors n j l) ∙ fun-ext none-in-zero)) i;
+        (at-row (λ u row. member (neighborsIn row) ≡ (λ v. false)) (λ u a. no-node u 1 a (omega arith))) i;
     forming = nodes-are n (formingAt n t) (fresh .forming)
-        (at-row (λ u row. member (formingIn row) ≡ (λ v. false)) (λ j l. ap member (fresh-forming n j l) ∙ fun-ext none-in-zero)) i;
+        (at-row (λ u row. member (formingIn row) ≡ (λ v. false)) (λ u a. no-node u 2 a (omega arith))) i;
     height = nodes-are n (heightsAt n t) (fresh .height) (at-row (λ u row. heightIn row ≡ fresh .height u) (fresh-heights n)) i;
     channel = pairs-are n (messagesOn n t) (fresh .channel) (λ u v a b. ap queue (cells-are u v a b) ∙ queue-emptied) i;
   }
@@ -178,16 +159,12 @@ module _ (n u : ℕ) (nodes : List ℕ) (f : FilledTo n u nodes) (inside : u ≤
   pub next-node : Node n u
   next-node = record { low = f .low; high = inside }
 
-  row-written : rowWith (nodeOf n u nodes) 0 0 0 u (freshHeight u) u (freshHeight u) ≡ freshRow n u
+  row-written : putHeight (nodeOf n u nodes) u (freshHeight u) ≡ freshRow n u
   unfolding freshRow
   row-written = rw (f .blank u next-node (omega arith))
 
   fresh-length : length (freshRow n u) ≡ width n
-  fresh-length = go u next-node
-    where
-      go : (x : ℕ) → Node n x → length (freshRow n x) ≡ width n
-      go zero a = absurd (omega (arith, a .low))
-      go (suc i) a = fresh-fits n i (a .high) .wide
+  fresh-length = fresh-fits n u next-node .wide
 
   -- the part nodes[a..e] that is lent
   pub part-wide : {a e : ℕ} → a ≡ (u - 1) * width n → e ≡ a + width n → length (take (e - a) (drop a nodes)) ≡ width n
@@ -195,7 +172,7 @@ module _ (n u : ℕ) (nodes : List ℕ) (f : FilledTo n u nodes) (inside : u ≤
 
   -- nodes after that part came back as the row of u
   pub filled-one : {a e : ℕ} {h : Height} {r next : List ℕ} → a ≡ (u - 1) * width n → e ≡ a + width n → h ≡ freshHeight u
-      → r ≡ rowWith (take (e - a) (drop a nodes)) 0 0 0 u h u h → next ≡ take a nodes ++ (r ++ drop (e - a) (drop a nodes))
+      → r ≡ putHeight (take (e - a) (drop a nodes)) u h → next ≡ take a nodes ++ (r ++ drop (e - a) (drop a nodes))
       → FilledTo n (u + 1) next
   filled-one {a} {e} {h} {r} {next} starts ends is-fresh written back = record {
     low = omega arith;
@@ -209,8 +186,8 @@ module _ (n u : ℕ) (nodes : List ℕ) (f : FilledTo n u nodes) (inside : u ≤
     where
       put : next ≡ putNode n u (freshRow n u) nodes
       put =
-          back ∙ changed-row (width n) (u - 1) nodes starts ends (λ row. rowWith row 0 0 0 u (freshHeight u) u (freshHeight u))
-          (written ∙ ap (λ (k : Height). rowWith (take (e - a) (drop a nodes)) 0 0 0 u k u k) is-fresh)
+          back ∙ changed-row (width n) (u - 1) nodes starts ends (λ row. putHeight row u (freshHeight u))
+          (written ∙ ap (putHeight (take (e - a) (drop a nodes)) u) is-fresh)
           ∙ ap (λ (row : List ℕ). putNode n u row nodes) row-written
 
       at : (x : ℕ) → Node n x → (x ≡ u) ⊎ (x ≡ u → ⊥) → x < u + 1 → nodeOf n x next ≡ freshRow n x

@@ -1,5 +1,4 @@
 // The fresh network written into tables of the right sizes.
-// Assumes the bounds that each `requires` states.
 ghost use mathlib.Core.Path.{_≡_};
 ghost use Rattle.height.specs.Words.{Negated};
 ghost use Rattle.protocol.specs.Network.{fresh, freshHeight};
@@ -30,7 +29,7 @@ pub fn fill(n: u32, nodes: &mut [u32], channels: &mut [u32])
         let h = fresh_height(u);
         let a = tables::rows::node_start(n, u);
         let e = a + w;
-        tables::rows::write_row(n, &mut nodes[a..e], Time(0), 0, 0, u, h, u, h);
+        tables::rows::put_height(n, &mut nodes[a..e], u, h);
         u += 1;
     }
 }

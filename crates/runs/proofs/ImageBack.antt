@@ -8,6 +8,8 @@ use mathlib.Core.Path.{_≡_, refl, ap, _∙_}
 use borrow.Author.Tests.{eqb-true}
 use lib.Dec.{eqb, leb}
 use lib.ListN.{length, take, drop}
+use Rattle.refusal.specs.Refusal.{why}
+use Rattle.refusal.specs.Outcome.{outcome, putFront}
 use Rattle.image.specs.Image.{image}
 use Rattle.lent.proofs.CheckLaws.{is-sized}
 use Rattle.protocol.specs.Holds.{sound}

@@ -19,7 +19,7 @@ use Rattle.basics.specs.Functions.{update}
 use Rattle.basics.proofs.Tests.{equal?}
 use Rattle.basics.proofs.FunctionsLaws.{update-at, update-off}
 use Rattle.tables.specs.Fit.{RowFits}
-use Rattle.tables.specs.Row.{clockIn, neighborsIn, formingIn, heightIn, putHeight, headed, rowWith, nodeWords}
+use Rattle.tables.specs.Row.{clockIn, neighborsIn, formingIn, heightIn, putHeight, headed, nodeWords}
 use Rattle.tables.specs.Rows.{rowAt, rows}
 use Rattle.tables.specs.Tables.{width}
 use Rattle.tables.proofs.WordRuns.{part-run, rows-are, run-words}
@@ -69,10 +69,10 @@ apart k j d = go (decLt j k)
     go (no q) = inr (omega arith)
 
 module _ (n k : ℕ) (inside : k < n) (row : List ℕ) (wide : length row ≡ width n) (h : Height) (w : Wordy h) where
-  put-heights : (z : ℕ) → heightIn (putHeight row (suc k) h) z ≡ update (heightIn row) (suc k) h z
+  put-height : (z : ℕ) → heightIn (putHeight row (suc k) h) z ≡ update (heightIn row) (suc k) h z
   unfolding putHeight heightIn
-  put-heights zero = sym (update-off (heightIn row) (suc k) h 0 (λ e. omega arith))
-  put-heights (suc j) = go (equal? j k)
+  put-height zero = sym (update-off (heightIn row) (suc k) h 0 (λ e. omega arith))
+  put-height (suc j) = go (equal? j k)
     where
       go : (j ≡ k) ⊎ (j ≡ k → ⊥) → heightAt (storedAt row (3 + k * 7) h) (3 + j * 7) ≡ update (heightIn row) (suc k) h (suc j)
       go (inl e) = rw (e, update-at (heightIn row) (suc k) h) (load-stored row (3 + k * 7) h (omega (arith, wide)) (w .delta) (w .nlts))
@@ -94,6 +94,26 @@ module _ (n k : ℕ) (inside : k < n) (row : List ℕ) (wide : length row ≡ wi
           side (inl q) = rw (stored-before row (3 + k * 7) h (3 + j * 7 + 3) (omega arith)) (old j l)
           side (inr q) = rw (stored-past row (3 + k * 7) h (3 + j * 7 + 3) (omega arith)) (old j l)
 
+-- the three words before the heights stay
+pub put-word : (row : List ℕ) (v : ℕ) (h : Height) (j : ℕ) → j < 3 → getD (putHeight row v h) j 0 ≡ getD row j 0
+unfolding putHeight
+put-word row zero h j l = refl
+put-word row (suc k) h j l = stored-before row (3 + k * 7) h j (omega arith)
+
+pub put-heights : (n : ℕ) (row : List ℕ) → length row ≡ width n → (v : ℕ) → Node n v → (h : Height) → Wordy h
+    → heightIn (putHeight row v h) ≡ update (heightIn row) v h
+put-heights n row wide zero a h w = absurd (omega (arith, a .low))
+put-heights n row wide (suc k) a h w = fun-ext (put-height n k (a .high) row wide h w)
+
+pub put-fits : (n : ℕ) (row : List ℕ) → RowFits n row → (v : ℕ) → Node n v → (h : Height) → Wordy h → RowFits n (putHeight row v h)
+put-fits n row fits zero a h w = absurd (omega (arith, a .low))
+put-fits n row fits (suc k) a h w = record {
+  wide = put-length row (suc k) h ∙ fits .wide;
+  neighbors-lt = rw (put-word row (suc k) h 1 (omega arith)) (fits .neighbors-lt);
+  forming-lt = rw (put-word row (suc k) h 2 (omega arith)) (fits .forming-lt);
+  deltas = put-deltas n k (a .high) row (fits .wide) h w (fits .deltas);
+}
+
 -- ---- the three words before the heights
 
 module _ (row : List ℕ) (clock N F : ℕ) (long : 3 ≤ length row) where
@@ -101,18 +121,18 @@ module _ (row : List ℕ) (clock N F : ℕ) (long : 3 ≤ length row) where
   unfolding headed
   headed-length = simp length-set
 
-  headed-clock : clockIn (headed row clock N F) ≡ clock
+  pub headed-clock : clockIn (headed row clock N F) ≡ clock
   unfolding headed
   headed-clock =
       getD-set-other (set (set row 0 clock) 1 N) 2 0 F 0 (λ e. omega arith)
       ∙ getD-set-other (set row 0 clock) 1 0 N 0 (λ e. omega arith) ∙ getD-set-same row 0 clock 0 (omega arith)
 
-  headed-neighbors : neighborsIn (headed row clock N F) ≡ N
+  pub headed-neighbors : neighborsIn (headed row clock N F) ≡ N
   unfolding headed
   headed-neighbors =
       getD-set-other (set (set row 0 clock) 1 N) 2 1 F 0 (λ e. omega arith) ∙ getD-set-same (set row 0 clock) 1 N 0 (simp length-set (omega arith))
 
-  headed-forming : formingIn (headed row clock N F) ≡ F
+  pub headed-forming : formingIn (headed row clock N F) ≡ F
   unfolding headed
   headed-forming = getD-set-same (set (set row 0 clock) 1 N) 2 F 0 (simp length-set (omega arith))
 
@@ -127,74 +147,16 @@ module _ (row : List ℕ) (clock N F : ℕ) (long : 3 ≤ length row) where
   headed-height zero = refl
   headed-height (suc k) = same-words (headed row clock N F) row (3 + k * 7) (3 + k * 7) (λ j q. headed-word (3 + k * 7 + j) (omega arith))
 
--- ---- the row after an event
+  pub headed-heights : heightIn (headed row clock N F) ≡ heightIn row
+  headed-heights = fun-ext headed-height
 
-module _ (n : ℕ) (row : List ℕ) (fits : RowFits n row) (clock N F i j : ℕ) (u-in : i < n) (v-in : j < n)
-    (view own : Height) (wv : Wordy view) (wo : Wordy own) where
-  once : List ℕ
-  once = putHeight row (suc j) view
-
-  twice : List ℕ
-  twice = putHeight (putHeight row (suc j) view) (suc i) own
-
-  once-wide : length (putHeight row (suc j) view) ≡ width n
-  once-wide = put-length row (suc j) view ∙ fits .wide
-
-  twice-wide : length (putHeight (putHeight row (suc j) view) (suc i) own) ≡ width n
-  twice-wide = put-length (putHeight row (suc j) view) (suc i) own ∙ once-wide
-
-  long : 3 ≤ length (putHeight (putHeight row (suc j) view) (suc i) own)
-  long = omega (arith, twice-wide)
-
-  pub with-clock : clockIn (rowWith row clock N F (suc j) view (suc i) own) ≡ clock
-  unfolding rowWith
-  with-clock = headed-clock (putHeight (putHeight row (suc j) view) (suc i) own) clock N F long
-
-  pub with-neighbors : neighborsIn (rowWith row clock N F (suc j) view (suc i) own) ≡ N
-  unfolding rowWith
-  with-neighbors = headed-neighbors (putHeight (putHeight row (suc j) view) (suc i) own) clock N F long
-
-  pub with-forming : formingIn (rowWith row clock N F (suc j) view (suc i) own) ≡ F
-  unfolding rowWith
-  with-forming = headed-forming (putHeight (putHeight row (suc j) view) (suc i) own) clock N F long
-
-  pub with-heights : heightIn (rowWith row clock N F (suc j) view (suc i) own) ≡ update (update (heightIn row) (suc j) view) (suc i) own
-  unfolding rowWith
-  with-heights = fun-ext λ z.
-      headed-height (putHeight (putHeight row (suc j) view) (suc i) own) clock N F long z
-      ∙ put-heights n i u-in (putHeight row (suc j) view) once-wide own wo z
-      ∙ ap (λ (f : ℕ → Height). update f (suc i) own z) (fun-ext (put-heights n j v-in row (fits .wide) view wv))
-
-  pub with-fits : N < 2 ^ n → F < 2 ^ n → RowFits n (rowWith row clock N F (suc j) view (suc i) own)
-  unfolding rowWith
-  with-fits hN hF = record {
-    wide = headed-length (putHeight (putHeight row (suc j) view) (suc i) own) clock N F long ∙ twice-wide;
-    neighbors-lt = rw (headed-neighbors (putHeight (putHeight row (suc j) view) (suc i) own) clock N F long) hN;
-    forming-lt = rw (headed-forming (putHeight (putHeight row (suc j) view) (suc i) own) clock N F long) hF;
-    deltas = λ k l.
-        rw (headed-word (putHeight (putHeight row (suc j) view) (suc i) own) clock N F long (3 + k * 7 + 3) (omega arith))
-        (put-deltas n i u-in (putHeight row (suc j) view) once-wide own wo (put-deltas n j v-in row (fits .wide) view wv (fits .deltas)) k l);
-  }
-
--- what the written row holds
-pub record RowAfter (n : ℕ) (row : List ℕ) (clock N F v : ℕ) (view : Height) (u : ℕ) (own : Height) : Type 0 where
-  pub clock-is : clockIn (rowWith row clock N F v view u own) ≡ clock
-  pub neighbors-is : neighborsIn (rowWith row clock N F v view u own) ≡ N
-  pub forming-is : formingIn (rowWith row clock N F v view u own) ≡ F
-  pub heights-are : heightIn (rowWith row clock N F v view u own) ≡ update (update (heightIn row) v view) u own
-  pub fits : RowFits n (rowWith row clock N F v view u own)
-
-pub row-after : (n : ℕ) (row : List ℕ) → RowFits n row → (clock N F v : ℕ) (view : Height) (u : ℕ) (own : Height)
-    → Node n u → Node n v → Wordy view → Wordy own → N < 2 ^ n → F < 2 ^ n → RowAfter n row clock N F v view u own
-row-after n row fits clock N F v view zero own a b wv wo hN hF = absurd (omega (arith, a .low))
-row-after n row fits clock N F zero view (suc i) own a b wv wo hN hF = absurd (omega (arith, b .low))
-row-after n row fits clock N F (suc j) view (suc i) own a b wv wo hN hF =
-    let hi : i < n = omega (arith, a .high) in
-    let hj : j < n = omega (arith, b .high) in
-    record {
-      clock-is = with-clock n row fits clock N F i j hi hj view own wv wo;
-      neighbors-is = with-neighbors n row fits clock N F i j hi hj view own wv wo;
-      forming-is = with-forming n row fits clock N F i j hi hj view own wv wo;
-      heights-are = with-heights n row fits clock N F i j hi hj view own wv wo;
-      fits = with-fits n row fits clock N F i j hi hj view own wv wo hN hF;
-    }
+pub headed-fits : (n : ℕ) (row : List ℕ) → RowFits n row → (clock N F : ℕ) → N < 2 ^ n → F < 2 ^ n → RowFits n (headed row clock N F)
+headed-fits n row fits clock N F hN hF = record {
+  wide = headed-length row clock N F long ∙ fits .wide;
+  neighbors-lt = rw (headed-neighbors row clock N F long) hN;
+  forming-lt = rw (headed-forming row clock N F long) hF;
+  deltas = λ k l. rw (headed-word row clock N F long (3 + k * 7 + 3) (omega arith)) (fits .deltas k l);
+}
+  where
+    long : 3 ≤ length row
+    long = omega (arith, fits .wide)

@@ -1,5 +1,4 @@
 -- A node's row: clock, linked set N, forming set F, then the heights of nodes 1 to n, its own and its views.
--- Assumes nothing: these are definitions.
 use Prim.Native.Nat.{ℕ, zero, suc, _+_, _*_}
 use mathlib.Core.Bool.{Bool}
 use mathlib.Core.List.{List, _∷_}
@@ -31,10 +30,6 @@ putHeight row (suc k) h = storedAt row (3 + k * 7) h
 -- the row with this clock and these sets
 unfoldable pub headed : List ℕ → ℕ → ℕ → ℕ → List ℕ
 headed row clock N F = set (set (set row 0 clock) 1 N) 2 F
-
--- the row with this clock, these sets, this view of v and this own height of u
-unfoldable pub rowWith : List ℕ → ℕ → ℕ → ℕ → ℕ → Height → ℕ → Height → List ℕ
-rowWith row clock N F v view u own = headed (putHeight (putHeight row v view) u own) clock N F
 
 -- a node's numbers as words
 unfoldable pub nodeWords : ℕ → ℕ → (ℕ → Bool) → (ℕ → Bool) → (ℕ → Height) → List ℕ

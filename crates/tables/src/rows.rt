@@ -1,12 +1,11 @@
-// A node's row: where it stands, what it holds, and the one function that writes it.
-// Assumes the bounds that each `requires` states.
+// A node's row: where it stands, what it holds, and what is written to it.
 ghost use mathlib.Core.Path.{_≡_};
 ghost use Prim.Native.Nat.{_+_, _-_, _*_, _≤_, _<_};
 ghost use lib.ListN.{length};
 ghost use Rattle.height.specs.Words.{Negated};
 ghost use Rattle.protocol.specs.Network.{Node};
 ghost use Rattle.tables.specs.Tables.{width, cellWidth, nodeOf, pairOf, channelOf};
-ghost use Rattle.tables.specs.Row.{clockIn, neighborsIn, formingIn, heightIn, rowWith};
+ghost use Rattle.tables.specs.Row.{clockIn, neighborsIn, formingIn, heightIn, putHeight, headed};
 use height::Height;
 use height::Time;
 
@@ -90,25 +89,22 @@ pub fn height_in(n: u32, row: &[u32], v: u32) -> Height
     height::words::load_height(row, 3 + k * 7)
 }
 
-// A row with a new clock, new sets, a view of v and an own height of u.
-pub fn write_row(
-    n: u32,
-    row: &mut [u32],
-    clock: Time,
-    neighbors: u16,
-    forming: u16,
-    v: u32,
-    view: Height,
-    u: u32,
-    own: Height,
-)
-    requires { ⌜ (n ≤ 16) × Node n u × Node n v × (length (now row) ≡ width n) × Negated (view .pair .nlts .0) × Negated (own .pair .nlts .0) ⌝ }
-    ensures { λ _. ⌜ now (row .exit) ≡ rowWith (now (row .entry)) (clock .0) neighbors forming v view u own ⌝ }
+// ---- what is written to a row
+
+// The height of node v.
+pub fn put_height(n: u32, row: &mut [u32], v: u32, h: Height)
+    requires { ⌜ (n ≤ 16) × Node n v × (length (now row) ≡ width n) × Negated (h .pair .nlts .0) ⌝ }
+    ensures { λ _. ⌜ now (row .exit) ≡ putHeight (now (row .entry)) v h ⌝ }
 {
-    let j = (v - 1) as usize;
-    let i = (u - 1) as usize;
-    height::words::store_height(row, 3 + j * 7, view);
-    height::words::store_height(row, 3 + i * 7, own);
+    let k = (v - 1) as usize;
+    height::words::store_height(row, 3 + k * 7, h);
+}
+
+// The clock and both sets.
+pub fn put_head(row: &mut [u32], clock: Time, neighbors: u16, forming: u16)
+    requires { ⌜ 3 ≤ length (now row) ⌝ }
+    ensures { λ _. ⌜ now (row .exit) ≡ headed (now (row .entry)) (clock .0) neighbors forming ⌝ }
+{
     row[0] = clock.0;
     row[1] = neighbors as u32;
     row[2] = forming as u32;

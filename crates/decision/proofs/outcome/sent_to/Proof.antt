@@ -53,7 +53,7 @@ returns-5 : tie.Need-returns-5
 unfolding sendsTo inEither
 returns-5 c =
     let s = c .before .before in
-    c .union .ensures ∙ setOf-ext 16 _ _ (λ w l h. sym (sends-all (s .args .v) (s .args .rule) (c .before .match .keys5) w _))
+    c .union .ensures ∙ setOf-ext 16 _ _ (λ w l h. sym (sends-all (s .args .v) (s .args .d .rule) (c .before .match .keys5) w _))
 
 pub sent-to-spec : {M : Type 1} → statement M
 sent-to-spec =

@@ -7,7 +7,7 @@ use Rattle.decision.proofs.outcome.started.Tie as tie
 
 returns : tie.Need-returns
 returns c =
-    let own = c .before .before .height-of .ensures in
+    let own = c .before .before .before .height-of .ensures in
     (c .height-with .ensures ∙ rw (own .0), rw (c .height-with .ensures) (own .1))
 
 pub started-spec : {M : Type 1} → statement M

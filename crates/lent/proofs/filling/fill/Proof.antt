@@ -42,25 +42,24 @@ node-start-requires c κs = (c .before .before .loop .inv .few, next-node _ _ _ 
 add-e : tie.Need-add-e Inv-loop μ-loop
 add-e c = omega (arith, c .node-start .ensures .2, c .before .before .before .loop .inv .few)
 
-mul-write-row : tie.Need-mul-write-row Inv-loop μ-loop
-mul-write-row c = omega (arith, c .node-start .ensures .2)
+mul-put-height : tie.Need-mul-put-height Inv-loop μ-loop
+mul-put-height c = omega (arith, c .node-start .ensures .2)
 
-sub-write-row : tie.Need-sub-write-row Inv-loop μ-loop
-sub-write-row c = omega arith
+sub-put-height : tie.Need-sub-put-height Inv-loop μ-loop
+sub-put-height c = omega arith
 
-part-write-row-start : tie.Need-part-write-row-start Inv-loop μ-loop
-part-write-row-start c = omega arith
+part-put-height-start : tie.Need-part-put-height-start Inv-loop μ-loop
+part-put-height-start c = omega arith
 
-part-write-row-end : tie.Need-part-write-row-end Inv-loop μ-loop
-part-write-row-end c = omega (arith, c .node-start .ensures .1, c .before .before .before .loop .inv .size)
+part-put-height-end : tie.Need-part-put-height-end Inv-loop μ-loop
+part-put-height-end c = omega (arith, c .node-start .ensures .1, c .before .before .before .loop .inv .size)
 
-write-row-requires : tie.Need-write-row-requires Inv-loop μ-loop
-write-row-requires c κs =
+put-height-requires : tie.Need-put-height-requires Inv-loop μ-loop
+put-height-requires c κs =
     let inv = c .before .before .before .before .loop .inv in
     let taken = c .before .before .before .loop-test .taken in
     let height = c .before .before .fresh-height .ensures in
-    let node = next-node _ _ _ inv taken in
-    (inv .few, node, node, part-wide _ _ _ inv taken (c .before .node-start .ensures .0) refl, height .1, height .1)
+    (inv .few, next-node _ _ _ inv taken, part-wide _ _ _ inv taken (c .before .node-start .ensures .0) refl, height .1)
 
 add-u : tie.Need-add-u Inv-loop μ-loop
 add-u c = omega (arith, c .before .before .before .before .before .before .before .loop .inv .few)
@@ -73,7 +72,7 @@ loop-again c =
     let inv = c .before .before .before .before .before .before .before .loop .inv in
     let taken = c .before .before .before .before .before .before .loop-test .taken in
     filled-one _ _ _ inv taken (c .before .before .before .before .node-start .ensures .0) refl
-    (c .before .before .before .before .before .fresh-height .ensures .0) (c .before .before .write-row .ensures) refl
+    (c .before .before .before .before .before .fresh-height .ensures .0) (c .before .before .put-height .ensures) refl
 
 same-length : tie.Need-same-length Inv-loop μ-loop
 same-length c =
@@ -103,11 +102,11 @@ fill-spec =
     fresh-height-requires
     node-start-requires
     add-e
-    mul-write-row
-    sub-write-row
-    part-write-row-start
-    part-write-row-end
-    write-row-requires
+    mul-put-height
+    sub-put-height
+    part-put-height-start
+    part-put-height-end
+    put-height-requires
     add-u
     loop-less
     loop-again

@@ -1,7 +1,6 @@
--- The channels' cells before and after an event sends. For the proof: the meaning is `cleared` and `commit` of protocol.
--- Assumes nothing: these are definitions.
+-- The channels' cells before and after an event sends. The meaning is `cleared` and `commit` of protocol.
 use Prim.Native.Nat.{ℕ, _*_, _≤_}
-use mathlib.Core.Bool.{Bool, false, not, cond, _&&_, _||_}
+use mathlib.Core.Bool.{Bool, not, cond, _&&_, _||_}
 use mathlib.Core.List.{List}
 use mathlib.Core.Path.{_≡_}
 use lib.Dec.{eqb, ltb}
@@ -27,12 +26,6 @@ abbrev pub Takes : Kind → ℕ → ℕ → ℕ → List ℕ → Type 0
 Takes Raised n u v cs = Unit {0}
 Takes Dropped n u v cs = Unit {0}
 Takes Received n u v cs = 1 ≤ count (channelOf n v u cs)
-
--- the set that a down sends to does not hold v
-abbrev pub Silenced : Kind → ℕ → ℕ → Type 0
-Silenced Raised to v = Unit {0}
-Silenced Dropped to v = member to v ≡ false
-Silenced Received to v = Unit {0}
 
 -- before anything is sent: a down of u, v empties the cell u v, a receipt at u from v takes the first message of the cell v u
 abbrev pub clearedCells : Kind → ℕ → ℕ → ℕ → List ℕ → ℕ → ℕ → List ℕ

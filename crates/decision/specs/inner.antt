@@ -1,0 +1,2 @@
+-- Definitions for the proofs alone: no promise of a crate above cites them.
+pub mod Bounds

@@ -1,0 +1,18 @@
+-- `tables::rows::put_height` meets its contract: the height is stored at node v's place.
+-- Assumes nothing.
+use mathlib.Core.Path.{sym, _∙_}
+use borrow.Author.Needs.{needs}
+use Rattle.tables.proofs.RowsLaws.{put-height-place}
+use Rattle.tables.proofs.rows.put_height.Statement.{statement}
+use Rattle.tables.proofs.rows.put_height.Tie as tie
+
+returns : tie.Need-returns
+returns c =
+    let s = c .before .before .before .before .before in
+    c .before .before .store-height .ensures ∙ sym (put-height-place _ _ (s .args .h) (s .pre .1 .low))
+
+pub put-height-spec : {M : Type 1} → statement M
+put-height-spec =
+    tie.close
+    (tie.spec (λ c. search needs) (λ c. search needs) (λ c. search needs) (λ c. search needs) (λ c κs. search needs)
+    (λ c. search needs) returns)
