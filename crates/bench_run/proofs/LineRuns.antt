@@ -12,7 +12,7 @@ use Rattle.refusal.specs.Outcome.{Outcome, outcome}
 use Rattle.refusal.specs.Refusal.{whyOf}
 use Rattle.refusal.specs.declared.Refusal.{Refusal}
 use Rattle.election.specs.StepOn.{stepOn}
-use Rattle.protocol.specs.Answer.{Said}
+use Rattle.protocol.specs.Answer.{Said, saidRefused}
 use Rattle.protocol.specs.Step.{up, down, receive}
 use Rattle.tables.specs.Tables.{Tables}
 use Rattle.text.specs.Text.{poured}

@@ -9,6 +9,7 @@ use lib.Dec.{eqb}
 use Rattle.refusal.specs.Outcome.{Outcome}
 use Rattle.commands.specs.Commands.{SaidCommand, commandOf}
 use Rattle.election.proofs.RunLaws.{own-call}
+use Rattle.protocol.specs.Answer.{Said}
 use Rattle.protocol.specs.Network.{Node, Network, fresh}
 use Rattle.calls.specs.History.{State, started, advance}
 use Rattle.protocol.specs.Step.{Event}

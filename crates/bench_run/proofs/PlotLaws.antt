@@ -24,7 +24,7 @@ use Rattle.text.specs.Text.{poured}
 use Rattle.text.proofs.TextLaws.{poured-all}
 use Rattle.bench_run.specs.Listing.{eventHead, stationHead, badPlot, eventLines, afterLines, stationLines, plotListing, headed, listing}
 use Rattle.bench_run.specs.OnTables.{eventLinesOn, afterLinesOn, stationLineOn, stationLinesOn}
-use Rattle.refusal.specs.Outcome.{accepted, outcome, putFront, refusedWith}
+use Rattle.refusal.specs.Outcome.{Outcome, accepted, outcome, putFront, refusedWith}
 use Rattle.refusal.specs.Refusal.{why}
 use Rattle.bench_run.specs.Run.{runOn}
 use Rattle.bench_run.proofs.Listings.{events-same, stations-after}
@@ -32,9 +32,9 @@ use Rattle.bench_run.proofs.PourLaws.{Poured, then}
 
 -- ---- the tables
 
-pub made-fresh : (n : ℕ) (t : Tables) → Sized n t → {s : Why} {u : Tables} → filled s u ≡ freshOn n t → u ≡ tablesOf n fresh
+pub made-fresh : (n : ℕ) (t : Tables) → Sized n t → {s : Why} {u : Tables} → outcome s u ≡ freshOn n t → u ≡ tablesOf n fresh
 unfolding freshOn
-made-fresh n t size e = ap (λ (f : Filled). f .after) (rw (is-sized n t size) at e)
+made-fresh n t size e = ap (λ (f : Outcome Why Tables). f .after) (rw (is-sized n t size) at e)
 
 -- the station lines look at the rows only
 rows-only : (n : ℕ) (ns cs : List ℕ) → stationLinesOn n (tables ns []) ≡ stationLinesOn n (tables ns cs)

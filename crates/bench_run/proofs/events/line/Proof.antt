@@ -1,7 +1,7 @@
 -- `bench_run::events::line` meets its contract: the event that the line names, on the tables and in the listing.
 -- Assumes nothing.
 use Rattle.bench_run.proofs.PourLaws.{both}
-use Rattle.bench_run.proofs.LineRuns.{line-up, line-down, line-receive, line-malformed, line-done}
+use Rattle.bench_run.proofs.LineRuns.{line-up, line-down, line-receive, line-refused, line-done}
 use borrow.Author.Needs.{needs}
 use Rattle.bench_run.proofs.events.line.Statement.{statement}
 use Rattle.bench_run.proofs.events.line.Tie as tie
@@ -36,11 +36,11 @@ receive-requires c κs = search needs
 put-answer-requires-3 : tie.Need-put-answer-requires-3
 put-answer-requires-3 c κs = search needs
 
-enum-told : tie.Need-enum-told
-enum-told c = search needs
+enum-known-why : tie.Need-enum-known-why
+enum-known-why c = search needs
 
-put-event-requires : tie.Need-put-event-requires
-put-event-requires c κs = search needs
+put-answer-requires-4 : tie.Need-put-answer-requires-4
+put-answer-requires-4 c κs = search needs
 
 same-length : tie.Need-same-length
 same-length c = search needs
@@ -101,10 +101,10 @@ same-length-10 c = search needs
 
 returns-4 : tie.Need-returns-4
 returns-4 c =
-    let x = c .before .before .put-event .ensures in
-    line-done
-    (line-malformed _ _ _ _ (c .before .before .before .before .before .before .parse .ensures) (c .before .before .before .before .enum-told .given .1))
-    (both (x .0) (x .1)) (x .2)
+    let a = c .before .before in
+    let w = a .before .before .before in
+    let x = a .put-answer4 .ensures in
+    line-done (line-refused _ _ _ _ (w .before .before .parse .ensures) (w .why .given .1)) (both (x .0) (x .1)) (x .2)
 
 pub line-spec : {M : Type 1} → statement M
 line-spec =
@@ -120,8 +120,8 @@ line-spec =
     enum-known-u-3
     receive-requires
     put-answer-requires-3
-    enum-told
-    put-event-requires
+    enum-known-why
+    put-answer-requires-4
     same-length
     same-length-2
     same-length-3
