@@ -14,7 +14,8 @@ use Rattle.lent.specs.Check.{checkOn}
 use Rattle.lent.proofs.SoundTables.{Words, sound-fits}
 use Rattle.protocol.specs.Network.{Node}
 use Rattle.basics.proofs.Tests.{equal?}
-use Rattle.image_snapshot.specs.Save.{put, saveChecked, saveOn}
+use Rattle.refusal.specs.Outcome.{putFront}
+use Rattle.image_snapshot.specs.Save.{saveChecked, saveOn}
 use Rattle.tables.specs.Cell.{count}
 use Rattle.tables.specs.Fit.{TablesFit}
 use Rattle.tables.specs.Load.{load}
@@ -123,8 +124,8 @@ module _ (n : ℕ) (t : Tables) where
 
   -- a save of tables that pass the check, with room as for the longest image, is accepted
   pub save-room : Words t → checkOn n t .number ≡ 0 → (out : List ℕ) → imageLength n ≤ length out
-      → saveOn n t out .said .check .number ≡ 0
-  unfolding saveOn saveChecked put
+      → saveOn n t out .said .why .number ≡ 0
+  unfolding saveOn saveChecked putFront
   save-room words sound out room =
       let b : length (image n (load n t)) ≤ length out = omega (arith, room, length-le (sound-fits n t words sound)) in
       rw (sound, le-leb (length (image n (load n t))) (length out) b)
