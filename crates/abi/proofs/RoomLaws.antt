@@ -17,11 +17,11 @@ use Rattle.basics.proofs.Tests.{equal?}
 use Rattle.refusal.specs.Outcome.{putFront}
 use Rattle.image_snapshot.specs.Save.{saveChecked, saveOn}
 use Rattle.tables.specs.Cell.{count}
-use Rattle.tables.specs.Fit.{TablesFit}
+use Rattle.tables.specs.inner.Fit.{TablesFit}
 use Rattle.tables.specs.Load.{load}
 use Rattle.tables.specs.Rows.{rows}
 use Rattle.tables.specs.Tables.{Tables, channelOf}
-use Rattle.image_writing.specs.Words.{cellBitsAt, cellsFromBits, cellsBits}
+use Rattle.image_writing.specs.inner.Words.{cellBitsAt, cellsFromBits, cellsBits}
 use Rattle.image_writing.proofs.ImageLaws.{depth-16, counts, length-image}
 use Rattle.image_writing.proofs.LengthLaws.{own-none, length-cell, rows-le}
 use Rattle.abi.specs.Sizes.{imageLength}

@@ -1,5 +1,4 @@
 -- The numbers of nodes, 1 to 16, and the products that follow from them.
--- Assumes nothing.
 use Prim.Native.Nat.{ℕ, _+_, _-_, _*_, _≤_}
 use native.Mathlib.Nat.{mul-le-mul}
 use native.Mathlib.Omega.{arith}

@@ -3,9 +3,9 @@
 use Prim.Native.Nat.{ℕ, _+_, _-_, _*_, _/_}
 use mathlib.Core.Bool.{Bool, cond, _&&_}
 use lib.Dec.{leb}
-use Rattle.image.specs.Widths.{messageWidth, nodeWidth}
+use Rattle.image.specs.Widths.{headerLength, depthWidth, messageWidth, nodeWidth}
 use Rattle.protocol.specs.Network.{capacity}
-use Rattle.tables.specs.Tables.{width, cellWidth}
+use Rattle.tables.specs.Tables.{heightSize, width, cellWidth}
 
 abbrev pub isSize : ℕ → Bool
 isSize n = leb 1 n && leb n 16
@@ -17,8 +17,8 @@ unfoldable pub channelsLength : ℕ → ℕ
 channelsLength n = cond (isSize n) (n * n * cellWidth) 0
 
 unfoldable pub rowLength : ℕ → ℕ
-rowLength n = cond (isSize n) (n * 7) 0
+rowLength n = cond (isSize n) (n * heightSize) 0
 
 -- header, n nodes, n (n - 1) channels of a count and 8 messages
 unfoldable pub imageLength : ℕ → ℕ
-imageLength n = cond (isSize n) ((32 + n * nodeWidth 16 n + n * (n - 1) * (4 + capacity * messageWidth 16)) / 8) 0
+imageLength n = cond (isSize n) ((headerLength + n * nodeWidth depthWidth n + n * (n - 1) * (4 + capacity * messageWidth depthWidth)) / 8) 0

@@ -75,7 +75,7 @@ pub extern "C" fn election_nodes_len(n: u32) -> usize
 {
     if is_size(n) {
         let k = n as usize;
-        return k * (3 + 7 * k);
+        return k * (tables::ROW_HEAD + tables::HEIGHT_SIZE * k);
     }
     0
 }
@@ -87,7 +87,7 @@ pub extern "C" fn election_channels_len(n: u32) -> usize
 {
     if is_size(n) {
         let k = n as usize;
-        return k * k * 65;
+        return k * k * tables::CELL_WIDTH;
     }
     0
 }
@@ -98,7 +98,7 @@ pub extern "C" fn election_row_len(n: u32) -> usize
     ensures { λ r. ⌜ r ≡ rowLength n ⌝ }
 {
     if is_size(n) {
-        return (n as usize) * 7;
+        return (n as usize) * tables::HEIGHT_SIZE;
     }
     0
 }
@@ -110,9 +110,9 @@ pub extern "C" fn election_image_len(n: u32) -> usize
 {
     if is_size(n) {
         let k = n as usize;
-        let nodes = k * (64 + 96 * k);
-        let channels = k * (k - 1) * (4 + 8 * 128);
-        return (32 + nodes + channels) / 8;
+        let nodes = k * (image::NODE_HEAD + image::HEIGHT_WIDTH * k);
+        let channels = k * (k - 1) * (4 + tables::CAPACITY * image::MESSAGE_WIDTH);
+        return (image::HEADER_END + nodes + channels) / 8;
     }
     0
 }

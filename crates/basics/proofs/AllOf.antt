@@ -1,5 +1,4 @@
 -- What holds of every element of a list: of the first, of the others, and as what follows from it.
--- Assumes nothing.
 use mathlib.Core.List.{List, [], _∷_, tail}
 
 pub data AllOf {A : Type 0} (P : A → Type 0) : List A → Type 0 where

@@ -1,5 +1,4 @@
 -- Laws of the bench listing.
--- Assumes nothing of its own: each module says what it assumes.
 pub mod Listings
 pub mod PourLaws
 pub mod StationLaws

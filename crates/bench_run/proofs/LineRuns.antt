@@ -1,5 +1,4 @@
 -- One event line: the command that it names, carried out on the tables and printed.
--- Assumes nothing.
 use Prim.Native.Nat.{ℕ, _+_, _≤_}
 use mathlib.Core.List.{List}
 use mathlib.Core.Path.{_≡_, refl, sym, ap, _∙_}
@@ -17,7 +16,7 @@ use Rattle.protocol.specs.Step.{up, down, receive}
 use Rattle.tables.specs.Tables.{Tables}
 use Rattle.text.specs.Text.{poured}
 use Rattle.bench_run.specs.Listing.{eventLine, saidLine, byEvent}
-use Rattle.bench_run.specs.OnTables.{commandLineOn, afterCommandOn}
+use Rattle.bench_run.specs.inner.OnTables.{commandLineOn, afterCommandOn}
 use Rattle.bench_run.proofs.PourLaws.{Poured}
 
 -- the line's text and the tables after it

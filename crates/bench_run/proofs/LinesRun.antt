@@ -12,7 +12,7 @@ use Rattle.commands.proofs.LineLaws.{lines-at, lines-at-end}
 use Rattle.tables.specs.Tables.{Tables}
 use Rattle.text.specs.Text.{poured}
 use Rattle.text.proofs.TextLaws.{length-poured}
-use Rattle.bench_run.specs.OnTables.{commandLineOn, afterCommandOn, eventLinesOn, afterLinesOn}
+use Rattle.bench_run.specs.inner.OnTables.{commandLineOn, afterCommandOn, eventLinesOn, afterLinesOn}
 use Rattle.bench_run.proofs.PourLaws.{Poured, then}
 
 module _ (n : ℕ) (t₀ : Tables) (input : List ℕ) (from : ℕ) (out₀ : List ℕ) (at : ℕ) where

@@ -20,7 +20,7 @@ use Rattle.tables.proofs.Back.{storable, load-back}
 use Rattle.tables.proofs.RowsMore.{rows-same}
 use Rattle.tables.proofs.TablesLaws.{load-clock, load-height}
 use Rattle.bench_run.specs.Listing.{saidLine, eventNamed, byEvent, commandLine, afterCommand, eventLines, afterLines, stationLines}
-use Rattle.bench_run.specs.OnTables.{commandLineOn, afterCommandOn, eventLinesOn, afterLinesOn, stationLineOn, stationLinesOn}
+use Rattle.bench_run.specs.inner.OnTables.{commandLineOn, afterCommandOn, eventLinesOn, afterLinesOn, stationLineOn, stationLinesOn}
 
 -- the state after a command
 stateAfter : ℕ → State → SaidCommand → State

@@ -1,5 +1,4 @@
 -- The whole listing: its four parts poured one behind the other, by the first line, and into the room that there is.
--- Assumes nothing.
 use Prim.Native.Nat.{ℕ, suc, _+_, _*_, _≤_, _<_}
 use native.Mathlib.Nat.{zero-add}
 use native.Mathlib.Omega.{arith}
@@ -23,7 +22,7 @@ use Rattle.tables.proofs.Sizes.{rows-small, cells-small}
 use Rattle.text.specs.Text.{poured}
 use Rattle.text.proofs.TextLaws.{poured-all}
 use Rattle.bench_run.specs.Listing.{eventHead, stationHead, badPlot, eventLines, afterLines, stationLines, plotListing, headed, listing}
-use Rattle.bench_run.specs.OnTables.{eventLinesOn, afterLinesOn, stationLineOn, stationLinesOn}
+use Rattle.bench_run.specs.inner.OnTables.{eventLinesOn, afterLinesOn, stationLineOn, stationLinesOn}
 use Rattle.refusal.specs.Outcome.{Outcome, accepted, outcome, putFront, refusedWith}
 use Rattle.refusal.specs.Refusal.{why}
 use Rattle.bench_run.specs.Run.{runOn}

@@ -13,7 +13,7 @@ use Rattle.tables.specs.Tables.{tables, nodeOf}
 use Rattle.tables.proofs.RowsMore.{rows-more}
 use Rattle.text.specs.Text.{poured}
 use Rattle.bench_run.specs.Listing.{stationLine}
-use Rattle.bench_run.specs.OnTables.{stationLineOn}
+use Rattle.bench_run.specs.inner.OnTables.{stationLineOn}
 use Rattle.bench_run.proofs.PourLaws.{Poured, then, station-le}
 
 pub station-line : (n u : ℕ) (ns : List ℕ) {row : List ℕ} {own : Height} {clock : ℕ} → row ≡ nodeOf n u ns → own ≡ heightIn row u → clock ≡ clockIn row

@@ -1,5 +1,4 @@
 // The lines of a listing, poured into the bytes from a place on; the place behind each.
-// Assumes the bounds that each `requires` states.
 ghost use mathlib.Core.List.{[], _∷_, _++_};
 ghost use mathlib.Core.Path.{_≡_};
 ghost use Prim.Native.Nat.{_+_, _^_, _≤_, _<_};

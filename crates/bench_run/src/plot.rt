@@ -1,24 +1,25 @@
 // The listing of an input: the plot that its first line names, or "bad plot".
-// Assumes the bounds that each `requires` states.
 ghost use mathlib.Core.Path.{_≡_};
 ghost use Prim.Native.Nat.{_+_, _*_, _≤_, _<_};
 ghost use lib.ListN.{length, drop};
 ghost use Rattle.bench_run.specs.Listing.{plotListing, listing};
 ghost use Rattle.commands.specs.Commands.{linesOf};
-ghost use Rattle.tables.specs.Tables.{given, Sized};
+ghost use Rattle.tables.specs.Tables.{given, Sized, width, cellWidth};
 ghost use Rattle.text.specs.Text.{poured};
+use tables::MOST_CHANNELS;
+use tables::MOST_NODES;
 
 // Room for the tables of up to 16 nodes.
-fn blank_nodes() -> [u32; 1840]
-    ensures { λ r. ⌜ length r ≡ 1840 ⌝ }
+fn blank_nodes() -> [u32; MOST_NODES]
+    ensures { λ r. ⌜ length r ≡ 16 * width 16 ⌝ }
 {
-    [0; 1840]
+    [0; MOST_NODES]
 }
 
-fn blank_channels() -> [u32; 16640]
-    ensures { λ r. ⌜ length r ≡ 16640 ⌝ }
+fn blank_channels() -> [u32; MOST_CHANNELS]
+    ensures { λ r. ⌜ length r ≡ 16 * 16 * cellWidth ⌝ }
 {
-    [0; 16640]
+    [0; MOST_CHANNELS]
 }
 
 // The listing of a plot of n nodes in tables of the right sizes, whose event lines start at a place of the input.
@@ -49,8 +50,8 @@ fn plot(input: &[u8], from: usize, n: u32, out: &mut [u8]) -> usize
     let mut nodes = blank_nodes();
     let mut channels = blank_channels();
     let k = n as usize;
-    let a = k * (3 + 7 * k);
-    let b = k * k * 65;
+    let a = k * (tables::ROW_HEAD + tables::HEIGHT_SIZE * k);
+    let b = k * k * tables::CELL_WIDTH;
     with_tables(input, from, n, &mut nodes[..a], &mut channels[..b], out)
 }
 

@@ -1,10 +1,9 @@
 // The station lines.
-// Assumes the bounds that each `requires` states.
 ghost use mathlib.Core.List.{[]};
 ghost use mathlib.Core.Path.{_≡_};
 ghost use Prim.Native.Nat.{_+_, _*_, _^_, _≤_, _<_};
 ghost use lib.ListN.{length};
-ghost use Rattle.bench_run.specs.OnTables.{stationLineOn, stationLinesOn};
+ghost use Rattle.bench_run.specs.inner.OnTables.{stationLineOn, stationLinesOn};
 ghost use Rattle.protocol.specs.Network.{Node};
 ghost use Rattle.tables.specs.Tables.{tables, width};
 ghost use Rattle.text.specs.Text.{poured};

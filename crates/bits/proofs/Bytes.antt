@@ -1,4 +1,4 @@
--- The bits of bytes, fields in them, and the bytes after a write at any bit place. Assumes nothing.
+-- The bits of bytes, fields in them, and the bytes after a write at any bit place.
 -- The central law: the bits after a write are the bits before it with the new ones over them (`unpacked-written`).
 use Prim.Native.Nat.{ℕ, zero, suc, _+_, _*_, _/_, _%_, _^_, _≤_, _<_}
 use native.Mathlib.Nat.{mod-eq-of-lt}

@@ -1,5 +1,4 @@
 -- Laws of bits, bytes and fields, each built on those before it.
--- Assumes nothing.
 pub mod Numbers
 pub mod Overlay
 pub mod Bytes

@@ -1,5 +1,4 @@
 -- Bits and the numbers that they spell, over every width; lists below a bound (bits below 2, bytes below 256).
--- Assumes nothing.
 use Prim.Native.Nat.{ℕ, zero, suc, _+_, _*_, _/_, _%_, _^_, _<_}
 use native.Mathlib.Nat.{pow-zero, mod-mod, mod-eq-of-lt, mod-lt, add-assoc, add-mul, mul-assoc, zero-add, suc-add, mod-one, add-comm}
 use native.Mathlib.Numerals.{one-add}

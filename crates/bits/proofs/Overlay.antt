@@ -1,5 +1,4 @@
 -- Writing over a part of a list: what is written is read, all else is as it was, two writes end to end are one.
--- Assumes nothing.
 use Prim.Native.Nat.{ℕ, _+_, _-_, _≤_}
 use native.Mathlib.Nat.{add-assoc}
 use native.Mathlib.Omega.{arith}

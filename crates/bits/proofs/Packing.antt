@@ -1,5 +1,4 @@
 -- Fields packed into numbers of 64 bits, and these put at a bit place: what a turn of each loop does, over every list of widths.
--- Assumes nothing.
 use Prim.Native.Nat.{ℕ, zero, suc, _+_, _-_, _*_, _/_, _%_, _^_, _≤_, _<_}
 use native.Mathlib.Nat.{mod-lt, lt-of-lt-of-le, le-of-eq}
 use native.Mathlib.Numerals.{add-one}

@@ -1,5 +1,4 @@
 -- Fields got end to end out of 64 bits looked at, until these are used up: what a turn of the loop does, over every list of widths.
--- Assumes nothing.
 use Prim.Native.Nat.{ℕ, zero, suc, _+_, _-_, _*_, _/_, _%_, _^_, _≤_, _<_}
 use native.Mathlib.Omega.{arith}
 use mathlib.Core.Path.{_≡_, refl, sym, ap, subst, _∙_}

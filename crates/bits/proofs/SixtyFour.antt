@@ -1,5 +1,4 @@
 -- Sixty-four bits at once: eight bytes loaded and stored, a field cut out of them, fields joined to them.
--- Assumes nothing.
 use Prim.Native.Nat.{ℕ, _+_, _-_, _*_, _/_, _%_, _^_, _≤_, _<_}
 use native.Mathlib.Nat.{pow-zero, mod-eq-of-lt, mod-lt, div-one, add-zero, lt-of-lt-of-le}
 use native.Mathlib.Omega.{arith}

@@ -1,4 +1,4 @@
--- One turn of the loops that get and put a field: the bits of one byte. Assumes nothing.
+-- One turn of the loops that get and put a field: the bits of one byte.
 -- The machine's shifts lose nothing here.
 use Prim.Native.Nat.{ℕ, _+_, _-_, _*_, _/_, _%_, _^_, _≤_, _<_}
 use native.Mathlib.Nat.{pow-zero, mod-eq-of-lt, mod-lt, div-one, add-comm, one-mul, lt-of-lt-of-le, le-of-eq}

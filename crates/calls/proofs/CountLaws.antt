@@ -1,4 +1,4 @@
--- How many nodes pass a test: fewer pass a stricter one. Assumes nothing.
+-- How many nodes pass a test: fewer pass a stricter one.
 -- It gives the descent along falling heights its measure.
 use Prim.Native.Nat.{ℕ, zero, suc, _<_, _≤_}
 use native.Mathlib.Omega.{arith}

@@ -1,5 +1,5 @@
 -- Every state grown from the fresh network is good: it keeps the invariant, is within the ranges, and its history tells what it holds.
--- Assumes nothing. The theorems read their statements off this one induction.
+-- The theorems read their statements off this one induction.
 use Prim.Native.Nat.{ℕ}
 use mathlib.Core.Bool.{true, cond}
 use mathlib.Core.List.{List, [], _∷_}

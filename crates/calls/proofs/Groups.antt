@@ -1,5 +1,5 @@
 -- Groups, chains and collectors, whatever is up and whatever the heights are: being of one group goes both ways and on, a chain stays inside
--- the group and falls to its end, and a group has one collector for all its members. Assumes nothing.
+-- the group and falls to its end, and a group has one collector for all its members.
 use Prim.Native.Nat.{ℕ}
 use mathlib.Core.Bool.{Bool, true}
 use mathlib.Core.Path.{_≡_, refl, sym, _∙_}

@@ -1,5 +1,5 @@
 -- The last save that wrote given bytes: equal bytes are told exactly, and the newest such save counts. What each call does to the saves and to the
--- history, whatever it is made on: accepted events enter, accepted saves are kept, an accepted restore puts the history back. Assumes nothing.
+-- history, whatever it is made on: accepted events enter, accepted saves are kept, an accepted restore puts the history back.
 use Prim.Native.Nat.{ℕ}
 use native.Mathlib.Omega.{arith}
 use mathlib.Core.Bool.{true, cond}

@@ -1,5 +1,5 @@
 -- What holds of every network grown from the fresh one by a list of events, refused ones among them, for every n (so for 1 to 16).
--- Assumes nothing. The statements are records, below; Runs.antt adds saves and restores, Locality.antt says what an event can touch.
+-- The statements are records, below; Runs.antt adds saves and restores, Locality.antt says what an event can touch.
 use Prim.Native.Nat.{ℕ}
 use mathlib.Core.Bool.{true, false}
 use mathlib.Core.List.{List, [], _∷_}

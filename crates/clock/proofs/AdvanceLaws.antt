@@ -1,5 +1,4 @@
 -- The clock after an advance, by what the move answers.
--- Assumes nothing.
 use mathlib.Core.Path.{_≡_}
 use Rattle.clock.specs.Advance.{kept, advanceOn}
 use Rattle.height.specs.Clock.{saidMoved, clockAfter}

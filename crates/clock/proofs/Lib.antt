@@ -1,3 +1,2 @@
 -- What the clock's functions show of their answers.
--- Assumes nothing.
 pub mod AdvanceLaws

@@ -1,5 +1,4 @@
 -- Each return of `in_range`, `head`, `event`, `numbered` and `parse` is what inRange, headOf, named and commandOf say.
--- Assumes nothing.
 use Prim.Native.Nat.{ℕ, suc, _+_, _-_, _≤_, _<_}
 use native.Mathlib.Omega.{arith}
 use mathlib.Core.Bool.{true, false, not, _&&_, and-false}

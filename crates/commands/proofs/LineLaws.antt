@@ -1,5 +1,4 @@
 -- What a caller that walks the lines with a cursor needs: the lines one by one, and the bounds of what a line names.
--- Assumes nothing.
 use Prim.Native.Nat.{ℕ, suc, _+_, _-_, _≤_, _<_}
 use native.Mathlib.Omega.{arith}
 use mathlib.Core.Bool.{Bool, true, false, cond, _&&_}

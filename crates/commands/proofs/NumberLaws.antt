@@ -1,5 +1,4 @@
 -- Each return of `one_digit`, `two_digits` and `number` is what numberOf says.
--- Assumes nothing.
 use Prim.Native.Nat.{ℕ, _+_, _-_, _*_, _≤_}
 use native.Mathlib.Omega.{arith}
 use mathlib.Core.Bool.{Bool, true, false, not, _&&_}

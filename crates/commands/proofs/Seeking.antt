@@ -1,5 +1,4 @@
 -- A walk to the first byte x: f counts how many bytes stand before it, as toSpace and toNewline do. Both loops go by these laws.
--- Assumes nothing.
 use Prim.Native.Nat.{ℕ, suc, _+_, _≤_, _<_}
 use native.Mathlib.Numerals.{add-one}
 use native.Mathlib.Omega.{arith}

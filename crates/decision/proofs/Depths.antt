@@ -1,5 +1,4 @@
 -- One more or one less than a depth: it fits 32 bits, and it is out of range exactly where the depth was at the end.
--- Assumes nothing.
 use Prim.Native.Nat.{ℕ, zero, suc, _<_}
 use native.Mathlib.Omega.{arith}
 use mathlib.Core.Bool.{Bool, true, false, not, Bool·not-not}

@@ -2,7 +2,7 @@
 -- its node's row, the channels from it and the one received from. Assumes nothing else.
 use Prim.Native.Nat.{ℕ}
 use mathlib.Core.Bool.{true, false, cond}
-use mathlib.Core.List.{tail}
+use mathlib.Core.List.{List, map, tail}
 use mathlib.Core.Path.{_≡_, refl, sym, ap, _∙_}
 use lib.Dec.{eqb}
 use borrow.Author.Tests.{eqb-true, eq-eqb}
@@ -12,7 +12,7 @@ use Rattle.lent.specs.Check.{checkOn}
 use Rattle.lent.proofs.SoundTables.{Words, sound-fits}
 use Rattle.nodeset.specs.NodeSet.{setOf}
 use Rattle.protocol.specs.Answer.{saidRule, saidRefused}
-use Rattle.protocol.specs.Network.{Node, Network}
+use Rattle.protocol.specs.Network.{Node, Message, Network}
 use Rattle.protocol.specs.Step.{isReceipt, Event, receive, home, local}
 use Rattle.protocol.specs.Refusal.{returned, accepts, answer, next}
 use Rattle.protocol.specs.declared.Rule.{Rule}
@@ -20,11 +20,13 @@ use Rattle.protocol.specs.declared.Rule.the-variants.{ChannelUp, ElectSelf, Sta
 use Rattle.protocol.specs.declared.Rule.the-variants.{ReflectRefLevel, PropagateLargestRefLevel, AdoptLpIfPriority, Reply}
 use Rattle.protocol.proofs.Accepted.{home-node, peer-node, accepts-accepted}
 use Rattle.protocol.proofs.Locality.{other-records, other-channels, received-channel}
-use Rattle.tables.specs.Cell.{queue, cellWords}
-use Rattle.tables.specs.Fit.{TablesFit}
+use Rattle.tables.specs.Cell.{queue, messageWords}
+use Rattle.tables.specs.inner.Fit.{TablesFit}
 use Rattle.tables.specs.Load.{load, tablesOf}
+use Rattle.tables.specs.Records.{cellWords}
 use Rattle.tables.specs.Tables.{Tables, nodeOf, channelOf}
 use Rattle.tables.proofs.Back.{node-of, cell-of}
+use Rattle.tables.proofs.RecordsLaws.{network-row}
 use Rattle.tables.proofs.TablesLaws.{load-channel, tables-back}
 use Rattle.election.specs.StepOn.{stepAt, stepChecked, stepOn}
 
@@ -74,7 +76,8 @@ module _ (n : ℕ) (e : Event) (t : Tables) (words : Words t) where
   pub other-rows : (w : ℕ) → Node n w → (w ≡ home e → ⊥) → nodeOf n w (stepOn n e t .after .nodes) ≡ nodeOf n w (t .nodes)
   other-rows w a other = either-way (λ (t′ : Tables). nodeOf n w (t′ .nodes) ≡ nodeOf n w (t .nodes)) refl λ fit.
       let s = other-records n (load n t) e w other in
-      node-of n (next n (load n t) e) w a ∙ rw (s .clock, s .neighbors, s .forming, s .height) (sym (node-of n (load n t) w a))
+      node-of n (next n (load n t) e) w a ∙ network-row n (next n (load n t) e) (load n t) w (s .clock) (s .neighbors) (s .forming) (s .height)
+      ∙ sym (node-of n (load n t) w a)
       ∙ ap (λ (t′ : Tables). nodeOf n w (t′ .nodes)) (tables-back n t fit)
 
   -- ---- no channel changes but those from the event's node and, on a receipt, the one received from
@@ -82,7 +85,7 @@ module _ (n : ℕ) (e : Event) (t : Tables) (words : Words t) where
   pub other-cells : (x y : ℕ) → Node n x → Node n y → (x ≡ home e → ⊥) → isReceipt e x y ≡ false
       → channelOf n x y (stepOn n e t .after .channels) ≡ channelOf n x y (t .channels)
   other-cells x y a b other unheard = either-way (λ (t′ : Tables). channelOf n x y (t′ .channels) ≡ channelOf n x y (t .channels)) refl λ fit.
-      cell-of n (next n (load n t) e) x y a b ∙ ap cellWords (other-channels n (load n t) e x y other unheard)
+      cell-of n (next n (load n t) e) x y a b ∙ ap (λ (ms : List Message). cellWords (map messageWords ms)) (other-channels n (load n t) e x y other unheard)
       ∙ sym (cell-of n (load n t) x y a b) ∙ ap (λ (t′ : Tables). channelOf n x y (t′ .channels)) (tables-back n t fit)
 
   -- ---- an accepted call: the tables passed, and the loaded network accepts the event
@@ -105,7 +108,7 @@ module _ (n : ℕ) (e : Event) (t : Tables) (words : Words t) where
 
 -- of the channel received from, an accepted receipt takes the first message and no more
 pub received-cell : (n u v : ℕ) (t : Tables) → Words t → stepOn n (receive v u) t .said .why .number ≡ 0
-    → channelOf n v u (stepOn n (receive v u) t .after .channels) ≡ cellWords (tail (queue (channelOf n v u (t .channels))))
+    → channelOf n v u (stepOn n (receive v u) t .after .channels) ≡ cellWords (map messageWords (tail (queue (channelOf n v u (t .channels)))))
 received-cell n u v t words zero! =
     let c = carried-out n (receive v u) t words zero! in
     let ok = accepts-accepted n (load n t) (receive v u) (c .accepted) in
@@ -113,4 +116,4 @@ received-cell n u v t words zero! =
     let b = peer-node n (load n t) (receive v u) ok in
     ap (λ (t′ : Tables). channelOf n v u (t′ .channels)) (c .after-is)
     ∙ cell-of n (next n (load n t) (receive v u)) v u b a
-    ∙ ap cellWords (received-channel n (load n t) u v (λ q. ok .differ (sym q)) (c .accepted) ∙ ap tail (load-channel n t v b u a))
+    ∙ ap (λ (ms : List Message). cellWords (map messageWords ms)) (received-channel n (load n t) u v (λ q. ok .differ (sym q)) (c .accepted) ∙ ap tail (load-channel n t v b u a))

@@ -16,7 +16,7 @@ use Rattle.protocol.specs.Step.{cleared, post}
 use Rattle.protocol.proofs.NodeLaws.{node-passes}
 use Rattle.basics.proofs.FunctionsLaws.{update-at, update-off}
 use Rattle.tables.specs.Cell.{count, queue, appended, taken, emptied}
-use Rattle.tables.specs.Fit.{CellFits}
+use Rattle.tables.specs.inner.Fit.{CellFits}
 use Rattle.tables.specs.Load.{load, messagesOn}
 use Rattle.tables.specs.Tables.{Tables, tables, channelOf}
 use Rattle.tables.proofs.CellLaws.{queue-appended, appended-fits, queue-taken, taken-fits, queue-emptied, emptied-fits}

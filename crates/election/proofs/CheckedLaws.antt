@@ -12,7 +12,7 @@ use Rattle.refusal.specs.declared.Refusal.{Refusal}
 use Rattle.lent.proofs.SoundTables.{Words, sound-fits}
 use Rattle.protocol.specs.Answer.{saidRefused}
 use Rattle.protocol.specs.Step.{Event}
-use Rattle.tables.specs.Fit.{TablesFit}
+use Rattle.tables.specs.inner.Fit.{TablesFit}
 use Rattle.tables.specs.Tables.{Tables}
 use Rattle.election.specs.StepOn.{stepAt, stepChecked, stepOn}
 

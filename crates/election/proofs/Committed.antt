@@ -17,7 +17,7 @@ use Rattle.protocol.specs.Step.{carried, heightAfter, cleared, commit, post}
 use Rattle.basics.proofs.Tests.{equal?}
 use Rattle.basics.proofs.FunctionsLaws.{update-at}
 use Rattle.tables.specs.Cell.{count}
-use Rattle.tables.specs.Fit.{RowFits, TablesFit}
+use Rattle.tables.specs.inner.Fit.{RowFits, TablesFit}
 use Rattle.tables.specs.Load.{load, tablesOf, clockAt, neighborsAt, formingAt, heightsAt}
 use Rattle.tables.specs.Row.{clockIn, neighborsIn, formingIn, heightIn, putHeight}
 use Rattle.tables.specs.Tables.{Tables, nodeOf, putNode}

@@ -29,7 +29,7 @@ use Rattle.protocol.specs.declared.Rule.{Rule}
 use Rattle.protocol.specs.declared.Rule.the-variants.{ChannelUp, Ignored}
 use Rattle.protocol.proofs.RuleCases.{Verdict, isA, isR, isQ, isF, isE, isS, isP, verdict, downCases}
 use Rattle.tables.specs.Cell.{count, messageAt}
-use Rattle.tables.specs.Fit.{RowFits}
+use Rattle.tables.specs.inner.Fit.{RowFits}
 use Rattle.tables.specs.Load.{load, neighborsAt, formingAt}
 use Rattle.tables.specs.Row.{clockIn, neighborsIn, formingIn, heightIn}
 use Rattle.tables.specs.Tables.{Tables, nodeOf, channelOf}

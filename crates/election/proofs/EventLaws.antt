@@ -20,7 +20,7 @@ use Rattle.basics.proofs.Tests.{and-left, and-right}
 use Rattle.protocol.proofs.NodeLaws.{node-passes}
 use Rattle.basics.proofs.FunctionsLaws.{update-self}
 use Rattle.tables.specs.Cell.{count, messageAt, messagesAt, queue}
-use Rattle.tables.specs.Fit.{TablesFit}
+use Rattle.tables.specs.inner.Fit.{TablesFit}
 use Rattle.tables.specs.Load.{load, neighborsAt, formingAt}
 use Rattle.tables.specs.Row.{clockIn, neighborsIn, formingIn, heightIn}
 use Rattle.tables.specs.Tables.{Tables, nodeOf, channelOf}

@@ -1,5 +1,4 @@
 -- Laws of the events on tables.
--- Assumes nothing of its own: each module says what it assumes.
 pub mod SetChanges
 pub mod SendLaws
 pub mod CellChanges

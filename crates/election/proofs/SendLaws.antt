@@ -1,5 +1,4 @@
 -- What the functions of `sending` leave: lengths of cells, one changed cell, room for a message, and the loop that sends to a set.
--- Assumes nothing.
 use Prim.Native.Nat.{ℕ, _*_, _^_, _<_, _≤_}
 use native.Mathlib.Omega.{arith}
 use mathlib.Core.Bool.{true, false, cond, _&&_, and-true, and-false}

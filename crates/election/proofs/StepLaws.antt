@@ -17,7 +17,7 @@ use Rattle.protocol.specs.Answer.{saidRule, saidRefused}
 use Rattle.protocol.specs.Refusal.{misnamed, unfit, unfitNumber, late, tooDeep, crowded, returned, accepts, answer, next}
 use Rattle.protocol.specs.Step.{Event, home, Local, local, cleared, commit, step}
 use Rattle.basics.proofs.Tests.{Choice, yes!, no!, choice}
-use Rattle.tables.specs.Fit.{TablesFit}
+use Rattle.tables.specs.inner.Fit.{TablesFit}
 use Rattle.tables.specs.Load.{load, tablesOf}
 use Rattle.tables.specs.Tables.{Tables}
 use Rattle.tables.proofs.TablesLaws.{tables-back}

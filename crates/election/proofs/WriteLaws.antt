@@ -1,5 +1,4 @@
 -- What writing an event leaves: room after the event cleared a channel, and the cells after it sent.
--- Assumes nothing.
 use Prim.Native.Nat.{ℕ}
 use mathlib.Core.Bool.{Bool, true, false, not, _||_, and-false}
 use mathlib.Core.List.{List}

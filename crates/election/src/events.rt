@@ -13,7 +13,7 @@ ghost use Rattle.nodeset.specs.NodeSet.{member};
 ghost use Rattle.protocol.specs.Answer.{said};
 ghost use Rattle.protocol.specs.Network.{Node, isNode};
 ghost use Rattle.tables.specs.Cell.{count};
-ghost use Rattle.tables.specs.Fit.{RowFits, TablesFit};
+ghost use Rattle.tables.specs.inner.Fit.{RowFits, TablesFit};
 ghost use Rattle.tables.specs.Row.{neighborsIn, formingIn};
 ghost use Rattle.tables.specs.Tables.{cellWidth, given, atEntry, atExit, tables};
 ghost use Rattle.election.specs.StepOn.{stepAt};

@@ -18,7 +18,7 @@ fn has_room_for(n: u32, u: u32, to: u16, w: u32, channels: &[u32]) -> bool
     ensures { λ r. ⌜ r ≡ roomFor n u to (now (channels .entry)) w ⌝ }
 {
     let cell = tables::rows::channel(n, u, w, channels);
-    !nodeset::contains(to, w) | (tables::cells::waiting(cell) < 8)
+    !nodeset::contains(to, w) | ((tables::cells::waiting(cell) as usize) < tables::CAPACITY)
 }
 
 // Every channel of u's to a node of the set holds fewer than 8.
@@ -45,12 +45,12 @@ pub fn clear_channel(kind: Kind, n: u32, u: u32, v: u32, channels: &mut [u32])
         Kind::Raised => {}
         Kind::Dropped => {
             let a = tables::rows::channel_start(n, u, v);
-            let e = a + 65;
+            let e = a + tables::CELL_WIDTH;
             tables::cells::clear(&mut channels[a..e]);
         }
         Kind::Received => {
             let a = tables::rows::channel_start(n, v, u);
-            let e = a + 65;
+            let e = a + tables::CELL_WIDTH;
             tables::cells::take_first(&mut channels[a..e]);
         }
     }
@@ -59,11 +59,11 @@ pub fn clear_channel(kind: Kind, n: u32, u: u32, v: u32, channels: &mut [u32])
 // One message from u to w.
 fn send(n: u32, u: u32, w: u32, h: Height, t: Time, channels: &mut [u32])
     requires { ⌜ (n ≤ 16) × Node n u × Node n w × (length (now channels) ≡ n * n * cellWidth)
-        × (count (channelOf n u w (now channels)) < 8) × Negated (h .pair .nlts .0) ⌝ }
+        × (count (channelOf n u w (now channels)) < capacity) × Negated (h .pair .nlts .0) ⌝ }
     ensures { λ _. ⌜ now (channels .exit) ≡ putChannel n u w (appended (channelOf n u w (now (channels .entry))) h (t .0)) (now (channels .entry)) ⌝ }
 {
     let a = tables::rows::channel_start(n, u, w);
-    let e = a + 65;
+    let e = a + tables::CELL_WIDTH;
     tables::cells::append(&mut channels[a..e], h, t);
 }
 

@@ -1,5 +1,4 @@
 // Tables of three nodes to start a case from: fresh, or node 1 with a link to 3 and one forming to 2. Times are within clocks.
-// Assumes nothing.
 ghost use mathlib.Core.Path.{_≡_};
 ghost use Prim.Native.Nat.{_≤_};
 ghost use lib.ListN.{length};

@@ -1,5 +1,4 @@
 -- The comparison of two keys is the comparison of their beginnings and, where these are equal, of what follows; and what its answers say.
--- Assumes nothing.
 use mathlib.Core.Path.{_≡_, refl, ap₂, _∙_}
 use mathlib.Core.Bool.{Bool, true, false, not, cond, _&&_}
 use mathlib.Core.Logic.{_⊎_, inl, inr}

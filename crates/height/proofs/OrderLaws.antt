@@ -1,5 +1,4 @@
 -- The lexicographic order on lists of signed numbers: irreflexive, transitive, total at equal lengths, decided by a beginning.
--- Assumes nothing.
 use Prim.Native.Nat.{ℕ, zero, suc, _<_}
 use native.Mathlib.Omega.{arith}
 use mathlib.Core.Bool.{Bool, true, false}

@@ -1,5 +1,4 @@
 -- Signed numbers through their bits: a test, a cast or a difference on the bits is the one on the numbers, where these fit.
--- Assumes nothing.
 use Prim.Native.Nat.{ℕ, zero, suc, _≤_, _<_, _^_}
 use native.Mathlib.Nat.{zero-add}
 use native.Mathlib.Omega.{arith}

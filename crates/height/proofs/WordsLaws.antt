@@ -1,5 +1,4 @@
 -- A height's seven words and the height: each gives the other back, and a store leaves every word outside the seven.
--- Assumes nothing.
 use Prim.Native.Nat.{ℕ, zero, suc, _+_, _-_, _≤_, _<_}
 use mathlib.Core.Bool.{Bool, true, false}
 use mathlib.Core.Path.{_≡_, refl, ap, sym, _∙_}

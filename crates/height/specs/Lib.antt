@@ -1,5 +1,4 @@
 -- Definitions that the contracts of `height` cite.
--- Assumes nothing: these are definitions.
 pub mod Clock
 pub mod Height
 pub mod Order

@@ -1,5 +1,4 @@
 -- The rules of a height and of two sets as the code tests them: ranges that every word keeps are left out.
--- Assumes nothing.
 use Prim.Native.Nat.{ℕ, zero, suc, _-_, _*_, _%_, _^_, _≤_, _<_}
 use native.Mathlib.Omega.{arith}
 use mathlib.Core.Bool.{Bool, true, false, not, _&&_, _||_, and-assoc, and-true, and-false}

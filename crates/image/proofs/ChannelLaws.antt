@@ -13,9 +13,9 @@ use Rattle.bits.specs.Bits.{bits}
 use Rattle.bits.proofs.Numbers.{Below, below-nil, below-append, below-bits}
 use Rattle.basics.proofs.AllOf.{AllOf, none, more}
 use Rattle.basics.proofs.Tests.{Choice, yes!, no!, choice}
+use Rattle.tables.specs.Records.{Records}
 use Rattle.image.specs.Image.{messageBits, channelBits}
 use Rattle.image.specs.Places.{fieldIn, messagesOf, channelNext}
-use Rattle.image.specs.Records.{Records}
 use Rattle.image.specs.Widths.{recordBits, recordOf, messageWidth}
 use Rattle.image.proofs.RecordLaws.{FitsFields, length-message, below-record, record-of-bits}
 

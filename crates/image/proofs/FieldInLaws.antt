@@ -1,5 +1,4 @@
 -- One field of a list of bits: the number at a place, what stands behind it, and the list as the field and the rest.
--- Assumes nothing.
 use Prim.Native.Nat.{ℕ, _+_, _^_, _≤_, _<_}
 use native.Mathlib.Nat.{mod-eq-of-lt, lt-of-lt-of-le}
 use native.Mathlib.Omega.{arith}

@@ -13,13 +13,13 @@ use Rattle.bits.specs.Bits.{bits, number, unpacked}
 use Rattle.bits.proofs.Numbers.{Below, below-append, below-zeros, below-bits, length-bits, bits-number, number-bits}
 use Rattle.bits.proofs.Bytes.{unpacked-packed, length-packed}
 use Rattle.basics.proofs.Tests.{Choice, yes!, no!, choice}
+use Rattle.tables.specs.Records.{Records}
 use Rattle.tables.specs.Rows.{rows}
+use Rattle.tables.proofs.RecordsLaws.{Agree}
 use Rattle.tables.proofs.RowsMore.{rows-same}
 use Rattle.image.specs.Image.{headerBits, nodeBits, messageBits, channelBits, channelsBits, networkBits, padded, bytesOf, imageOf}
-use Rattle.image.specs.Records.{Records}
 use Rattle.image.specs.Widths.{recordBits}
 use Rattle.image.proofs.ChannelLaws.{channel-same, channel-other, below-channel}
-use Rattle.image.proofs.ReadBack.{Agree}
 use Rattle.image.proofs.RecordLaws.{below-record}
 use Rattle.image.proofs.RowsMore.{below-rows}
 

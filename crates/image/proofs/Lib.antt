@@ -1,5 +1,4 @@
--- Laws of images: round trips, records and tables, rows and cells put and got.
--- Assumes nothing of its own: each module says what it assumes.
+-- Laws of images: round trips, rows and cells put and got.
 pub mod Bounds
 pub mod RowsMore
 pub mod FieldInLaws
@@ -12,7 +11,6 @@ pub mod ReadBack
 pub mod WriteBack
 pub mod ImageBits
 pub mod Whole
-pub mod TablesRecords
 pub mod NetworkFits
 pub mod PartLaws
 pub mod PartTurns

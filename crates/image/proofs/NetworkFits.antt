@@ -8,7 +8,7 @@ use mathlib.Core.List.{List, [], _∷_, map}
 use mathlib.Core.Logic.{inl, inr}
 use mathlib.Core.Path.{refl}
 use borrow.Author.Tests.{ltb-false}
-use lib.ListN.{take, getD, set}
+use lib.ListN.{take, getD, set, length-map}
 use lib.IntN.{ℤ, pos, negsuc, natAbs}
 use lib.Pow.{pow-mono}
 use Rattle.bits.proofs.Fields.{Fitting, fitting-append}
@@ -24,13 +24,12 @@ use Rattle.basics.proofs.AllOf.{AllOf, none, more}
 use Rattle.protocol.proofs.Soundness.{Fits, MessageFits}
 use Rattle.basics.proofs.Tests.{Choice, yes!, no!, choice, SameOrNot, equal?}
 use Rattle.tables.specs.Cell.{messageWords}
-use Rattle.tables.proofs.Back.{message-length}
-use Rattle.image.specs.Records.{recordsOf}
+use Rattle.tables.specs.Records.{recordsOf}
+use Rattle.tables.proofs.RecordsLaws.{message-length}
 use Rattle.image.specs.Widths.{widthsOf}
 use Rattle.image.proofs.ChannelLaws.{MessageFields}
 use Rattle.image.proofs.ReadBack.{Fit}
 use Rattle.image.proofs.RecordLaws.{Holds, FitsFields}
-use Rattle.image.proofs.TablesRecords.{length-words}
 
 -- ---- heights and messages
 
@@ -99,7 +98,7 @@ network-fit n few p fits = record {
   neighbors-lt = λ i l. set-lt (p .neighbors (suc i));
   forming-lt = λ i l. set-lt (p .forming (suc i));
   heights = λ i j l m. (refl, view (suc i) (suc j) (record { low = omega arith; high = l }) m (equal? (suc j) (suc i)) (choice (p .neighbors (suc i) (suc j))));
-  counts = λ i j l m. rw (length-words (p .channel (suc i) (suc j))) (omega (arith, fits .lengths (suc i) (suc j)));
+  counts = λ i j l m. rw (length-map (p .channel (suc i) (suc j)) messageWords) (omega (arith, fits .lengths (suc i) (suc j)));
   messages = λ i j l m. messages-fields n few (suc i) l (p .channel (suc i) (suc j)) (fits .messages (suc i) (suc j));
 }
   where

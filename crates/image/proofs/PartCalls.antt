@@ -1,5 +1,4 @@
 -- A row and a cell, call by call: fields put one behind the other are the part's bits, and words set before a filled tail are the part read.
--- Assumes nothing.
 use Prim.Native.Nat.{ℕ, _+_, _-_, _*_, _≤_}
 use native.Mathlib.Omega.{arith}
 use mathlib.Core.List.{List, [], _∷_, _++_, append-nil}
@@ -9,12 +8,12 @@ use Rattle.bits.specs.Bits.{bits, unpacked, field, written}
 use Rattle.bits.proofs.Numbers.{below-bits, length-bits}
 use Rattle.bits.proofs.Bytes.{length-written, written-written}
 use Rattle.tables.specs.Cell.{count}
+use Rattle.tables.specs.Records.{slotWords, cellWords}
 use Rattle.tables.specs.Row.{clockIn, neighborsIn, formingIn}
 use Rattle.tables.specs.Tables.{width}
 use Rattle.tables.proofs.RowsLaws.{rest-is}
-use Rattle.image.specs.Parts.{Inside, Depth, heightsBits, rowBits, messagesBits, cellBits, heightsFrom, rowFrom, cellFrom}
-use Rattle.image.specs.Places.{fieldIn, messagesOf, channelFrom}
-use Rattle.image.specs.Records.{placesOf, cellOf}
+use Rattle.image.specs.inner.Parts.{Inside, Depth, recordsBits, rowBits, cellBits, rowFrom, cellFrom}
+use Rattle.image.specs.Places.{fieldIn, messagesOf, channelFrom, heightsFrom}
 use Rattle.image.specs.Widths.{messageWidth, nodeWidth}
 use Rattle.image.proofs.ChannelLaws.{length-messages-of}
 use Rattle.image.proofs.PartLaws.{length-heights-bits, length-messages-bits}
@@ -44,18 +43,18 @@ put-then xs ys zs at w v n cs e p q h =
 -- the clock, both sets and the heights
 pub row-put : (d n : ℕ) (row xs x₁ x₂ x₃ x₄ : List ℕ) (at : ℕ) → length row ≡ width n → Inside xs at (nodeWidth d n)
     → x₁ ≡ written xs at (bits 32 (clockIn row)) → x₂ ≡ written x₁ (at + 32) (bits 16 (neighborsIn row))
-    → x₃ ≡ written x₂ (at + 48) (bits 16 (formingIn row)) → x₄ ≡ written x₃ (at + 64) (heightsBits d n (take (length row - 3) (drop 3 row)))
+    → x₃ ≡ written x₂ (at + 48) (bits 16 (formingIn row)) → x₄ ≡ written x₃ (at + 64) (recordsBits d 7 n (take (length row - 3) (drop 3 row)))
     → x₄ ≡ written xs at (rowBits d n row)
 unfolding rowBits
 row-put d n row xs x₁ x₂ x₃ x₄ at s i p q r t =
-    let hs : List ℕ = heightsBits d n (drop 3 row) in
+    let hs : List ℕ = recordsBits d 7 n (drop 3 row) in
     let N : List ℕ = bits 16 (neighborsIn row) in
     let F : List ℕ = bits 16 (formingIn row) in
     let room : at + 64 + length hs ≤ 8 * length xs =
     omega (arith, behind-sets d n i .inside, length-heights-bits d n (drop 3 row) (simp length-drop (omega arith))) in
     let e₁ : length x₁ ≡ length xs = ap length p ∙ length-written xs at (bits 32 (clockIn row)) in
     let e₂ : length x₂ ≡ length x₁ = ap length q ∙ length-written x₁ (at + 32) N in
-    let t₄ : x₄ ≡ written x₃ (at + 64) hs = t ∙ ap (λ (ws : List ℕ). written x₃ (at + 64) (heightsBits d n ws)) (rest-is 3 row) in
+    let t₄ : x₄ ≡ written x₃ (at + 64) hs = t ∙ ap (λ (ws : List ℕ). written x₃ (at + 64) (recordsBits d 7 n ws)) (rest-is 3 row) in
     let t₃ : x₄ ≡ written x₂ (at + 48) (F ++ hs) =
     put-then x₂ x₃ x₄ (at + 48) 16 (formingIn row) (at + 64) hs (omega arith) r t₄ (omega arith) in
     let t₂ : x₄ ≡ written x₁ (at + 32) (N ++ (F ++ hs)) =
@@ -64,15 +63,15 @@ row-put d n row xs x₁ x₂ x₃ x₄ at s i p q r t =
 
 -- the count and the messages
 pub cell-put : (d : ℕ) (cell xs x₁ x₂ : List ℕ) (at : ℕ) → length cell ≡ 65 → count cell ≤ 8 → Inside xs at (4 + count cell * messageWidth d)
-    → x₁ ≡ written xs at (bits 4 (count cell)) → x₂ ≡ written x₁ (at + 4) (messagesBits d (count cell) (take (length cell - 1) (drop 1 cell)))
+    → x₁ ≡ written xs at (bits 4 (count cell)) → x₂ ≡ written x₁ (at + 4) (recordsBits d 8 (count cell) (take (length cell - 1) (drop 1 cell)))
     → x₂ ≡ written xs at (cellBits d cell)
 unfolding cellBits
 cell-put d cell xs x₁ x₂ at s h i p q =
-    let ms : List ℕ = messagesBits d (count cell) (drop 1 cell) in
+    let ms : List ℕ = recordsBits d 8 (count cell) (drop 1 cell) in
     let room : at + 4 + length ms ≤ 8 * length xs =
     omega (arith, length-messages-bits d (count cell) (drop 1 cell) (simp length-drop (omega arith))) in
     put-then xs x₁ x₂ at 4 (count cell) (at + 4) ms refl p
-    (q ∙ ap (λ (ws : List ℕ). written x₁ (at + 4) (messagesBits d (count cell) ws)) (rest-is 1 cell)) room
+    (q ∙ ap (λ (ws : List ℕ). written x₁ (at + 4) (recordsBits d 8 (count cell) ws)) (rest-is 1 cell)) room
 
 -- ---- words got
 
@@ -94,15 +93,15 @@ pub row-rest : (n : ℕ) (row : List ℕ) (x y z : ℕ) → length row ≡ width
 row-rest n row x y z h = rest-length 3 (set (set (set row 0 x) 1 y) 2 z) ∙ simp length-set (omega arith)
 
 pub cell-got : (d : ℕ) (xs cell ms : List ℕ) (at x : ℕ) → length cell ≡ 65
-    → x ≡ field xs at 4 → ms ≡ placesOf 8 (messagesOf d x (drop (at + 4) (unpacked xs)))
+    → x ≡ field xs at 4 → ms ≡ slotWords 8 (messagesOf d x (drop (at + 4) (unpacked xs)))
     → take 1 (set cell 0 x) ++ (ms ++ drop (length (set cell 0 x) - 1) (drop 1 (set cell 0 x))) ≡ cellFrom d (unpacked xs) at
-unfolding cellFrom cellOf channelFrom field fieldIn
+unfolding cellFrom cellWords channelFrom field fieldIn
 cell-got d xs [] ms at x s p q = absurd (omega arith)
 cell-got d xs (a ∷ ws) ms at x s p q =
     ap (λ (us : List ℕ). x ∷ (ms ++ us)) (rest-none 1 (x ∷ ws))
     ∙ ap (λ (us : List ℕ). x ∷ us) (append-nil ms ∙ q)
-    ∙ ap (λ (k : ℕ). k ∷ placesOf 8 (messagesOf d x (drop (at + 4) (unpacked xs)))) (sym (length-messages-of d x (drop (at + 4) (unpacked xs))))
-    ∙ ap (λ (k : ℕ). cellOf (messagesOf d k (drop (at + 4) (unpacked xs)))) p
+    ∙ ap (λ (k : ℕ). k ∷ slotWords 8 (messagesOf d x (drop (at + 4) (unpacked xs)))) (sym (length-messages-of d x (drop (at + 4) (unpacked xs))))
+    ∙ ap (λ (k : ℕ). cellWords (messagesOf d k (drop (at + 4) (unpacked xs)))) p
 
 -- what the messages' reader requires, after the count
 pub behind-count : (d : ℕ) (xs cell : List ℕ) (at x : ℕ)

@@ -13,12 +13,13 @@ use Rattle.bits.specs.Bits.{bits}
 use Rattle.bits.proofs.Numbers.{length-bits}
 use Rattle.basics.proofs.AllOf.{AllOf}
 use Rattle.basics.proofs.Tests.{Choice, yes!, no!, choice}
+use Rattle.tables.specs.Records.{Records}
 use Rattle.tables.specs.Rows.{rows}
+use Rattle.tables.proofs.RecordsLaws.{Agree}
 use Rattle.tables.proofs.RowsMore.{later, length-rows}
 use Rattle.image.specs.Image.{nodeBits, messageBits, channelBits, channelsBits, networkBits}
 use Rattle.image.specs.Places.{fieldIn, nodePlace, heightFrom, messagesOf, channelFrom, walked, channelNext, channelsNext}
 use Rattle.image.specs.Places.{channelsPlace, channelsFromPlace, channelPlace, imageEnd, recordsIn}
-use Rattle.image.specs.Records.{Records}
 use Rattle.image.specs.Widths.{recordBits, recordOf, heightWidth, messageWidth, nodeWidth}
 use Rattle.image.proofs.ChannelLaws.{MessageFields, length-messages, messages-read, channel-same, channel-other, next-same, next-other}
 use Rattle.image.proofs.FieldInLaws.{field-head, field-behind}
@@ -33,14 +34,6 @@ pub record Fit (d n : ℕ) (r : Records) : Type 0 where
   pub heights : (i j : ℕ) → i < n → j < n → (length (r .height (suc i) (suc j)) ≡ 7) × FitsFields d (r .height (suc i) (suc j))
   pub counts : (i j : ℕ) → i < n → j < n → length (r .channel (suc i) (suc j)) < 16
   pub messages : (i j : ℕ) → i < n → j < n → AllOf (MessageFields d) (r .channel (suc i) (suc j))
-
--- two records are the same at nodes 1 to n and their channels
-pub record Agree (n : ℕ) (r s : Records) : Type 0 where
-  pub clocks : (i : ℕ) → i < n → r .clock (suc i) ≡ s .clock (suc i)
-  pub neighbors-same : (i : ℕ) → i < n → r .neighbors (suc i) ≡ s .neighbors (suc i)
-  pub forming-same : (i : ℕ) → i < n → r .forming (suc i) ≡ s .forming (suc i)
-  pub heights : (i j : ℕ) → i < n → j < n → r .height (suc i) (suc j) ≡ s .height (suc i) (suc j)
-  pub channels : (i j : ℕ) → i < n → j < n → (suc i ≡ suc j → ⊥) → r .channel (suc i) (suc j) ≡ s .channel (suc i) (suc j)
 
 module _ (d : ℕ) (one : 1 ≤ d) (wide : d ≤ 32) (n : ℕ) (r : Records) (fit : Fit d n r) where
   pub length-node : (i : ℕ) → i < n → length (nodeBits d n r (suc i)) ≡ nodeWidth d n
@@ -198,7 +191,7 @@ module _ (d : ℕ) (one : 1 ≤ d) (wide : d ≤ 32) (n : ℕ) (r : Records) (fi
         neighbors-same = λ i b. neighbors-read l _ i (nodePlace h d n (suc i)) b (node-at i b);
         forming-same = λ i b. forming-read l _ i (nodePlace h d n (suc i)) b (node-at i b);
         heights = λ i j b c. height-read l _ i (nodePlace h d n (suc i)) b (node-at i b) j c;
-        channels = λ i j b c ne. channel-read i j (channelPlace h d n l (suc i) (suc j)) _ b c ne (channel-at i j b c);
+        channels = λ i j b c ne. rw (ne-eqb (suc i) (suc j) ne) (channel-read i j (channelPlace h d n l (suc i) (suc j)) _ b c ne (channel-at i j b c));
       }
 
       -- and what stands behind it is left

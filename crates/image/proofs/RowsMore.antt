@@ -1,5 +1,4 @@
 -- Rows laid end to end are below a bound where each is; the other laws of rows are in the crate `tables` (proofs/RowsMore.antt).
--- Assumes nothing.
 use Prim.Native.Nat.{ℕ, zero, suc, _<_}
 use mathlib.Core.List.{List}
 use Rattle.bits.proofs.Numbers.{Below, below-nil, below-append}

@@ -1,5 +1,5 @@
 -- A message's record is a height's and then a stamp: what putting and getting seven words, and then the eighth, comes to.
--- Over a depth's width d. Assumes nothing.
+-- Over a depth's width d.
 use Prim.Native.Nat.{ℕ, _+_, _*_, _^_, _≤_, _<_}
 use native.Mathlib.Nat.{le-of-eq}
 use native.Mathlib.Decide.{decLt}

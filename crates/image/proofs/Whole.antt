@@ -9,12 +9,13 @@ use lib.Pow.{pow-pos}
 use Rattle.bits.specs.Bits.{bits, number, packed, unpacked}
 use Rattle.bits.proofs.Numbers.{Below, below-nil, below-cons, below-append, below-zeros, below-drop}
 use Rattle.bits.proofs.Bytes.{below-unpacked, length-unpacked, packed-unpacked}
+use Rattle.tables.specs.Records.{Records}
+use Rattle.tables.proofs.RecordsLaws.{Agree}
 use Rattle.image.specs.Image.{headerBits, networkBits, padded, bytesOf, imageOf}
 use Rattle.image.specs.Places.{fieldIn, imageEnd, recordsIn}
-use Rattle.image.specs.Records.{Records}
 use Rattle.image.proofs.FieldInLaws.{field-head, field-behind, field-tail, field-in-lt}
 use Rattle.image.proofs.ImageBits.{number-zeros, zeros, padding, wholeBits, below-whole, unpacked-image, length-image, length-whole, behind-header}
-use Rattle.image.proofs.ReadBack.{Fit, Agree, network-read, end-read, place-read}
+use Rattle.image.proofs.ReadBack.{Fit, network-read, end-read, place-read}
 use Rattle.image.proofs.WriteBack.{network-written}
 
 -- ---- the header's fields in a written image

@@ -4,6 +4,7 @@ use Prim.Native.Nat.{ℕ, zero, suc, _+_, _-_, _*_, _≤_, _<_}
 use native.Mathlib.Nat.{add-assoc, suc-mul, zero-mul, mul-comm, mul-le-mul-right, le-trans}
 use native.Mathlib.Omega.{arith}
 use mathlib.Core.Path.{_≡_, refl, sym, ap, ap₂, _∙_}
+use mathlib.Core.Bool.{false}
 use mathlib.Core.List.{List, _++_, append-assoc}
 use lib.Dec.{eqb}
 use lib.ListN.{length, take, drop, length-drop, take-append-drop}
@@ -11,11 +12,11 @@ use lib.Seq.{drop-drop}
 use Rattle.bits.specs.Bits.{bits, total}
 use Rattle.bits.proofs.Numbers.{Below, below-drop}
 use Rattle.basics.proofs.Tests.{Choice, yes!, no!, choice}
+use Rattle.tables.specs.Records.{Records}
 use Rattle.tables.specs.Rows.{rows}
 use Rattle.image.specs.Image.{nodeBits, messageBits, channelBits, channelsBits, networkBits}
 use Rattle.image.specs.Places.{fieldIn, nodePlace, heightFrom, messagesOf, channelFrom, walked, channelNext, channelsNext}
 use Rattle.image.specs.Places.{channelsPlace, channelsFromPlace, channelPlace, imageEnd, recordsIn}
-use Rattle.image.specs.Records.{Records}
 use Rattle.image.specs.Widths.{widthsOf, recordBits, recordOf, heightWidth, messageWidth, nodeWidth}
 use Rattle.image.proofs.ChannelLaws.{length-messages-of, channel-same, channel-other, next-same, next-other}
 use Rattle.image.proofs.FieldInLaws.{field-tail}
@@ -51,7 +52,7 @@ module _ (d : ℕ) (one : 1 ≤ d) (wide : d ≤ 32) (l : List ℕ) (bl : Below 
       ∙ ap₂ (λ (x : List ℕ) (y : ℕ). (m ++ messageBits d (messagesOf d c x)) ++ drop y l) (sym (drop-drop w q l)) e
 
   -- ---- one channel, at its place q
-  pub channel-tail : (r : Records) (u v q : ℕ) → r .channel u v ≡ channelFrom d l q → channelNext d l u v q ≤ length l
+  pub channel-tail : (r : Records) (u v q : ℕ) → (eqb u v ≡ false → r .channel u v ≡ channelFrom d l q) → channelNext d l u v q ≤ length l
       → drop q l ≡ channelBits d r u v ++ drop (channelNext d l u v q) l
   unfolding channelFrom
   channel-tail r u v q e b = go (choice (eqb u v))
@@ -68,7 +69,7 @@ module _ (d : ℕ) (one : 1 ≤ d) (wide : d ≤ 32) (l : List ℕ) (bl : Below 
           let x : channelNext d l u v q ≡ q + 4 + c * messageWidth d = next-other d l u v q w in
           let y : channelBits d r u v ≡ bits 4 c ++ messageBits d ms =
           channel-other d r u v w
-          ∙ ap (λ (t : List (List ℕ)). bits 4 (length t) ++ messageBits d t) e
+          ∙ ap (λ (t : List (List ℕ)). bits 4 (length t) ++ messageBits d t) (e w)
           ∙ ap (λ (k : ℕ). bits 4 k ++ messageBits d ms) (length-messages-of d c (drop (q + 4) l)) in
           field-tail l q 4 bl (omega arith)
           ∙ ap (λ (t : List ℕ). bits 4 c ++ t) (messages-tail c (q + 4) (omega arith))
@@ -139,7 +140,7 @@ module _ (d : ℕ) (one : 1 ≤ d) (wide : d ≤ 32) (l : List ℕ) (bl : Below 
         let y : suc j - 1 ≡ j = omega arith in
         let here : channelPlace h d n l (suc i) (suc j) ≡ walked next j q =
         ap₂ (λ (a k : ℕ). walked next k (walked (channelsNext d n l) a (channelsPlace h d n))) z y in
-        channel-tail found (suc i) (suc j) (walked next j q) (ap (channelFrom d l) here)
+        channel-tail found (suc i) (suc j) (walked next j q) (λ w. rw w (ap (channelFrom d l) here))
         (le-trans (rw here at (channel-passed-in h d n l i j b c)) inside))
 
     -- THEOREM: what was read is written

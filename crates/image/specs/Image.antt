@@ -1,5 +1,5 @@
 -- The image of a network (document 01: plot image): header, nodes, channels, zero bits to the byte's end.
--- Over version, header length h and depth width d; document 01's is version 1, 32 and 16.
+-- Over version, header length h and depth width d; document 01's is version 1.
 use Prim.Native.Nat.{ℕ, _+_, _-_, _/_, _%_}
 use mathlib.Core.Bool.{cond}
 use mathlib.Core.List.{List, [], _∷_, _++_}
@@ -7,9 +7,9 @@ use lib.Dec.{eqb}
 use lib.ListN.{length, replicate}
 use Rattle.bits.specs.Bits.{bits, packed}
 use Rattle.protocol.specs.Network.{Network}
+use Rattle.tables.specs.Records.{Records, recordsOf}
 use Rattle.tables.specs.Rows.{rows}
-use Rattle.image.specs.Records.{Records, recordsOf}
-use Rattle.image.specs.Widths.{recordBits}
+use Rattle.image.specs.Widths.{recordBits, headerLength, depthWidth}
 
 -- version 4, header length 12, n 5, spare
 unfoldable pub headerBits : ℕ → ℕ → ℕ → List ℕ
@@ -49,4 +49,4 @@ imageOf version h d n r = bytesOf (headerBits version h n ++ networkBits d n r)
 
 -- document 01's
 unfoldable pub image : ℕ → Network → List ℕ
-image n p = imageOf 1 32 16 n (recordsOf n p)
+image n p = imageOf 1 headerLength depthWidth n (recordsOf n p)

@@ -1,7 +1,5 @@
--- The image of a network: records, their widths and places, and the bytes.
--- Assumes nothing: these are definitions.
+-- The image of a network: its records' widths and places, and the bytes.
 pub mod Widths
-pub mod Records
 pub mod Image
 pub mod Places
-pub mod Parts
+pub mod inner

@@ -1,14 +1,15 @@
 -- What stands at which bit place of an image's bits l: document 01, "The plot image". Over header length h and depth width d.
--- Node k starts at h + (k − 1)(64 + 96 n); a channel starts where the one before it ends.
+-- Node k starts at h + (k − 1) nodeWidth; a channel starts where the one before it ends.
 use Prim.Native.Nat.{ℕ, zero, suc, _+_, _-_, _*_}
 use mathlib.Core.Bool.{cond}
 use mathlib.Core.List.{List, [], _∷_}
 use lib.Dec.{eqb}
 use lib.ListN.{take, drop}
 use Rattle.bits.specs.Bits.{number}
-use Rattle.tables.specs.Tables.{Tables}
-use Rattle.image.specs.Records.{Records, tablesFrom}
-use Rattle.image.specs.Widths.{recordOf, heightWidth, messageWidth, nodeWidth}
+use Rattle.tables.specs.Records.{Records, tablesFrom}
+use Rattle.tables.specs.Rows.{rows}
+use Rattle.tables.specs.Tables.{Tables, heightSize, messageSize}
+use Rattle.image.specs.Widths.{recordOf, nodeHead, heightWidth, messageWidth, nodeWidth}
 
 -- the number of w bits at a place
 unfoldable pub fieldIn : List ℕ → ℕ → ℕ → ℕ
@@ -20,12 +21,20 @@ nodePlace h d n u = h + (u - 1) * nodeWidth d n
 
 -- the height of node v in a node's record at a place
 unfoldable pub heightFrom : ℕ → List ℕ → ℕ → ℕ → List ℕ
-heightFrom d l at v = recordOf d 7 (drop (at + 64 + (v - 1) * heightWidth d) l)
+heightFrom d l at v = recordOf d heightSize (drop (at + nodeHead + (v - 1) * heightWidth d) l)
+
+-- c records of k words, w bits apart from a place on
+unfoldable pub recordsFrom : ℕ → ℕ → ℕ → ℕ → List ℕ → ℕ → List ℕ
+recordsFrom d k w c l at = rows c (λ v. recordOf d k (drop (at + (v - 1) * w) l))
+
+-- the n heights of a node's record at a place
+unfoldable pub heightsFrom : ℕ → ℕ → List ℕ → ℕ → List ℕ
+heightsFrom d n l at = recordsFrom d heightSize (heightWidth d) n l (at + nodeHead)
 
 -- c messages
 unfoldable pub messagesOf : ℕ → ℕ → List ℕ → List (List ℕ)
 messagesOf d zero l = []
-messagesOf d (suc c) l = recordOf d 8 l ∷ messagesOf d c (drop (messageWidth d) l)
+messagesOf d (suc c) l = recordOf d messageSize l ∷ messagesOf d c (drop (messageWidth d) l)
 
 -- the channel at a place: its count says how many messages follow
 unfoldable pub channelFrom : ℕ → List ℕ → ℕ → List (List ℕ)
@@ -60,7 +69,7 @@ channelPlace h d n l u v = walked (channelNext d l u) (v - 1) (channelsFromPlace
 unfoldable pub imageEnd : ℕ → ℕ → ℕ → List ℕ → ℕ
 imageEnd h d n l = walked (channelsNext d n l) n (channelsPlace h d n)
 
--- ---- all that is read
+-- ---- all that is read; no channel leads from a node to itself
 
 unfoldable pub recordsIn : ℕ → ℕ → ℕ → List ℕ → Records
 recordsIn h d n l = record {
@@ -68,7 +77,7 @@ recordsIn h d n l = record {
   neighbors = λ u. fieldIn l (nodePlace h d n u + 32) 16;
   forming = λ u. fieldIn l (nodePlace h d n u + 48) 16;
   height = λ u v. heightFrom d l (nodePlace h d n u) v;
-  channel = λ u v. channelFrom d l (channelPlace h d n l u v);
+  channel = λ u v. cond (eqb u v) [] (channelFrom d l (channelPlace h d n l u v));
 }
 
 unfoldable pub tablesIn : ℕ → ℕ → ℕ → List ℕ → Tables

@@ -24,6 +24,17 @@ unfoldable pub recordOf : ℕ → ℕ → List ℕ → List ℕ
 recordOf d k bs =
     set (gathered (take k (widthsOf d)) bs) 3 (extendedOf d (getD (gathered (take k (widthsOf d)) bs) 3 0))
 
+-- version 1: bits of the header, and of a depth
+abbrev pub headerLength : ℕ
+headerLength = 32
+
+abbrev pub depthWidth : ℕ
+depthWidth = 16
+
+-- bits of a node's clock and sets, before its heights
+abbrev pub nodeHead : ℕ
+nodeHead = 64
+
 -- bits of a height, of a message, of a node's record
 unfoldable pub heightWidth : ℕ → ℕ
 heightWidth d = 80 + d
@@ -32,4 +43,4 @@ unfoldable pub messageWidth : ℕ → ℕ
 messageWidth d = 112 + d
 
 unfoldable pub nodeWidth : ℕ → ℕ → ℕ
-nodeWidth d n = 64 + heightWidth d * n
+nodeWidth d n = nodeHead + heightWidth d * n

@@ -1,15 +1,21 @@
-// A height's seven words or a message's eight, at a bit place.
-// Assumes the bounds that each `requires` states.
+// A height's seven words or a message's eight at a bit place, and records of one kind end to end.
+ghost use mathlib.Core.List.{_++_};
 ghost use mathlib.Core.Path.{_≡_};
-ghost use Prim.Native.Nat.{_+_, _^_, _≤_, _<_};
+ghost use Prim.Native.Nat.{_*_, _^_, _≤_, _<_};
 ghost use lib.ListN.{length, take, drop};
 ghost use Rattle.bits.specs.Bits.{unpacked, written, RoomFor};
+ghost use Rattle.image.specs.inner.Parts.{RecordRun, recordsBits};
+ghost use Rattle.image.specs.Places.{recordsFrom};
 ghost use Rattle.image.specs.Widths.{widthsOf, extendedOf, recordBits, recordOf};
+ghost use Rattle.tables.specs.Tables.{heightSize, messageSize};
+use super::HEIGHT_REST;
+use tables::HEIGHT_SIZE;
+use tables::MESSAGE_SIZE;
 
-const WIDTHS: [u8; 8] = [32, 5, 1, 16, 32, 5, 5, 32];
+const WIDTHS: [u8; MESSAGE_SIZE] = [32, 5, 1, 16, 32, 5, 5, 32];
 
 // The widths of a message's fields, with depths of `depth` bits; the first seven are a height's.
-fn widths(depth: u8) -> [u8; 8]
+fn widths(depth: u8) -> [u8; MESSAGE_SIZE]
     ensures { λ r. ⌜ r ≡ widthsOf depth ⌝ }
 {
     let mut w = WIDTHS;
@@ -32,25 +38,79 @@ fn extended(v: u32, width: u32) -> u32
 
 // The words go to a bit place: a height's seven at once, so that the compiler knows how many.
 pub fn put_record(buf: &mut [u8], at: usize, depth: u8, words: &[u32])
-    requires { ⌜ RoomFor (now buf) at (take (length (now words)) (widthsOf depth)) × ((7 ≤ length (now words)) × (length (now words) ≤ 8)) ⌝ }
+    requires { ⌜ RoomFor (now buf) at (take (length (now words)) (widthsOf depth)) × ((heightSize ≤ length (now words)) × (length (now words) ≤ messageSize)) ⌝ }
     ensures { λ _. ⌜ now (buf .exit) ≡ written (now (buf .entry)) at (recordBits depth (now (words .entry))) ⌝ }
 {
     let w = widths(depth);
-    bits::put_fields(buf, at, &w[..7], &words[..7]);
-    if words.len() == 8 {
-        bits::put(buf, at + (80 + depth as usize), 32, words[7]);
+    bits::put_fields(buf, at, &w[..HEIGHT_SIZE], &words[..HEIGHT_SIZE]);
+    if words.len() == MESSAGE_SIZE {
+        bits::put(
+            buf,
+            at + (HEIGHT_REST + depth as usize),
+            32,
+            words[HEIGHT_SIZE],
+        );
     }
 }
 
 // The words at a bit place.
 pub fn get_record(bytes: &[u8], at: usize, depth: u8, words: &mut [u32])
-    requires { ⌜ RoomFor (now bytes) at (take (length (now words)) (widthsOf depth)) × (((7 ≤ length (now words)) × (length (now words) ≤ 8)) × (1 ≤ depth)) ⌝ }
+    requires { ⌜ RoomFor (now bytes) at (take (length (now words)) (widthsOf depth)) × (((heightSize ≤ length (now words)) × (length (now words) ≤ messageSize)) × (1 ≤ depth)) ⌝ }
     ensures { λ _. ⌜ now (words .exit) ≡ recordOf depth (length (now (words .entry))) (drop at (unpacked (now (bytes .entry)))) ⌝ }
 {
     let w = widths(depth);
-    bits::get_fields(bytes, at, &w[..7], &mut words[..7]);
+    bits::get_fields(bytes, at, &w[..HEIGHT_SIZE], &mut words[..HEIGHT_SIZE]);
     words[3] = extended(words[3], depth as u32);
-    if words.len() == 8 {
-        words[7] = bits::get(bytes, at + (80 + depth as usize), 32);
+    if words.len() == MESSAGE_SIZE {
+        words[HEIGHT_SIZE] = bits::get(bytes, at + (HEIGHT_REST + depth as usize), 32);
+    }
+}
+
+// `count` records of `size` words and `width` bits, heights or messages, go to a bit place.
+pub fn put_records(
+    buf: &mut [u8],
+    at: usize,
+    depth: u8,
+    size: usize,
+    width: usize,
+    count: usize,
+    words: &[u32],
+)
+    requires { ⌜ RecordRun depth size width count (now buf) (now words) at ⌝ }
+    ensures { λ _. ⌜ now (buf .exit) ≡ written (now (buf .entry)) at (recordsBits depth size count (now (words .entry))) ⌝ }
+{
+    let mut place = at;
+    let mut k: usize = 0;
+    while k < count {
+        let a = k * size;
+        let e = a + size;
+        put_record(buf, place, depth, &words[a..e]);
+        place += width;
+        k += 1;
+    }
+}
+
+// The records at a bit place go over the first words.
+pub fn get_records(
+    bytes: &[u8],
+    at: usize,
+    depth: u8,
+    size: usize,
+    width: usize,
+    count: usize,
+    words: &mut [u32],
+)
+    requires { ⌜ RecordRun depth size width count (now bytes) (now words) at ⌝ }
+    ensures { λ _. ⌜ now (words .exit)
+        ≡ recordsFrom depth size width count (unpacked (now (bytes .entry))) at ++ drop (count * size) (now (words .entry)) ⌝ }
+{
+    let mut place = at;
+    let mut k: usize = 0;
+    while k < count {
+        let a = k * size;
+        let e = a + size;
+        get_record(bytes, place, depth, &mut words[a..e]);
+        place += width;
+        k += 1;
     }
 }

@@ -1,5 +1,4 @@
 // Two nodes: what is refused of tables, room, images and rows, with which number, in document 01's order.
-// Assumes nothing.
 ghost use mathlib.Core.Path.{_≡_};
 ghost use lib.ListN.{length};
 

@@ -1,5 +1,4 @@
 // Case m: sixteen nodes, each with all others in F and eight messages waiting on every channel, take 34,044 bytes.
-// Assumes nothing.
 ghost use mathlib.Core.Path.{_≡_};
 ghost use Prim.Native.Nat.{_≤_};
 ghost use lib.ListN.{length};

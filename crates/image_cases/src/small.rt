@@ -1,5 +1,4 @@
 // Case m: the lengths of fresh images of 1 and 2 nodes, and node 3 of 4 at bit 928.
-// Assumes nothing.
 ghost use mathlib.Core.Path.{_≡_};
 ghost use lib.ListN.{length};
 

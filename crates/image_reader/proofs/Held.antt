@@ -1,5 +1,5 @@
 -- What a reader owns, for the walks of this crate: what its image owns beside the whole, and the same at another place.
--- Assumes nothing. A `&[u8]` is Copy, so what the reader owns is had twice, and one of the two is taken apart.
+-- A `&[u8]` is Copy, so what the reader owns is had twice, and one of the two is taken apart.
 use mathlib.Core.Path.{_≡_, refl}
 use Prim.Native.Nat.{ℕ, _<_, _^_}
 use mathlib.Core.List.{[], _∷_}

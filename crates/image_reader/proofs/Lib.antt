@@ -1,5 +1,4 @@
 -- What the functions of this crate show of their answers.
--- Assumes nothing.
 pub mod FieldLaws
 pub mod Held
 pub mod RecordLaws

@@ -1,5 +1,4 @@
 -- A node's record: read from the byte on in which it starts, and by what the tests before it answer.
--- Assumes nothing.
 use Prim.Native.Nat.{ℕ, suc, _+_, _-_, _*_, _/_, _%_, _^_, _≤_, _<_}
 use native.Mathlib.Omega.{arith}
 use mathlib.Core.Bool.{Bool, true, false, not, _||_}
@@ -9,8 +8,8 @@ use borrow.Author.Tests.{eqb-true, ltb-false, not-false}
 use lib.Dec.{eqb, ltb}
 use lib.ListN.{length, take, drop}
 use Rattle.bits.specs.Bits.{number, unpacked}
-use Rattle.image.specs.Parts.{Inside, heightsFrom}
-use Rattle.image.specs.Places.{fieldIn, heightFrom}
+use Rattle.image.specs.inner.Parts.{Inside}
+use Rattle.image.specs.Places.{fieldIn, recordsFrom, heightsFrom}
 use Rattle.image.specs.Widths.{recordOf, heightWidth, nodeWidth}
 use Rattle.image.proofs.PartCalls.{rest-length}
 use Rattle.basics.proofs.Tests.{neither-left, neither-right}
@@ -36,9 +35,10 @@ module _ (xs : List ℕ) (k p at : ℕ) (e : 8 * k + p ≡ at) where
   field-from a w = ap (λ (l : List ℕ). number (take w l)) (from-byte xs k (p + a) (at + a) (omega (arith, e)))
 
   heights-from : (n : ℕ) → heightsFrom 16 n (unpacked (drop k xs)) p ≡ heightsFrom 16 n (unpacked xs) at
-  unfolding heightsFrom heightFrom
+  unfolding heightsFrom recordsFrom
   heights-from n =
-      rows-same n (heightFrom 16 (unpacked (drop k xs)) p) (heightFrom 16 (unpacked xs) at)
+      rows-same n (λ v. recordOf 16 7 (drop (p + 64 + (v - 1) * heightWidth 16) (unpacked (drop k xs))))
+      (λ v. recordOf 16 7 (drop (at + 64 + (v - 1) * heightWidth 16) (unpacked xs)))
       (λ i l. ap (recordOf 16 7) (from-byte xs k (p + 64 + (suc i - 1) * heightWidth 16) (at + 64 + (suc i - 1) * heightWidth 16) (omega (arith, e))))
 
   clock-from : fieldIn (unpacked (drop k xs)) p 32 ≡ fieldIn (unpacked xs) at 32

@@ -6,9 +6,9 @@ use mathlib.Core.List.{List}
 use lib.Dec.{eqb, ltb}
 use lib.ListN.{length}
 use Rattle.bits.specs.Bits.{unpacked}
-use Rattle.image.specs.Parts.{heightsFrom}
-use Rattle.image.specs.Places.{fieldIn}
-use Rattle.image.specs.Widths.{nodeWidth}
+use Rattle.image.specs.Places.{fieldIn, heightsFrom}
+use Rattle.image.specs.Widths.{depthWidth, nodeWidth}
+use Rattle.tables.specs.Tables.{heightSize}
 use Rattle.image_reader.specs.Fields.{standsIn}
 use Rattle.refusal.specs.Outcome.{Answered, Outcome, accepted, outcome, refusedWith}
 use Rattle.refusal.specs.Refusal.{why, whyOf}
@@ -32,12 +32,12 @@ unread w row = outcome (refusedWith noNode w) row
 unfoldable pub recordIn : ℕ → List ℕ → ℕ → Outcome (Answered NodeRecord) (List ℕ)
 recordIn n l at =
     outcome (accepted (record { clock = record { 0 = fieldIn l at 32 }; neighbors = fieldIn l (at + 32) 16; forming = fieldIn l (at + 48) 16 }))
-    (heightsFrom 16 n l at)
+    (heightsFrom depthWidth n l at)
 
 -- 12, else the record
 unfoldable pub nodeInside : ℕ → List ℕ → ℕ → List ℕ → Outcome (Answered NodeRecord) (List ℕ)
-nodeInside n xs at row = cond (not (standsIn xs at (nodeWidth 16 n))) (unread (why 12 0 0) row) (recordIn n (unpacked xs) at)
+nodeInside n xs at row = cond (not (standsIn xs at (nodeWidth depthWidth n))) (unread (why 12 0 0) row) (recordIn n (unpacked xs) at)
 
 -- 1, 12, else the record
 unfoldable pub nodeOn : ℕ → List ℕ → ℕ → List ℕ → Outcome (Answered NodeRecord) (List ℕ)
-nodeOn n xs at row = cond ((ltb n 1 || ltb 16 n) || not (eqb (length row) (n * 7))) (unread (why 1 0 0) row) (nodeInside n xs at row)
+nodeOn n xs at row = cond ((ltb n 1 || ltb 16 n) || not (eqb (length row) (n * heightSize))) (unread (why 1 0 0) row) (nodeInside n xs at row)

@@ -1,14 +1,14 @@
 // A node's record at a bit place of an image's bytes: the work of `node`.
-// Assumes the bounds that each `requires` states.
 ghost use mathlib.Core.Path.{_≡_};
 ghost use Prim.Native.Nat.{_+_, _*_, _≤_, _<_};
 ghost use lib.ListN.{length};
 ghost use Rattle.bits.specs.Bits.{unpacked};
-ghost use Rattle.image.specs.Parts.{Inside};
-ghost use Rattle.image.specs.Widths.{nodeWidth};
+ghost use Rattle.image.specs.inner.Parts.{Inside};
+ghost use Rattle.image.specs.Widths.{depthWidth, nodeWidth};
 ghost use Rattle.refusal.specs.Outcome.{outcome};
 ghost use Rattle.image_reader.specs.Record.{saidNode, recordIn, nodeInside, nodeOn};
 ghost use Rattle.image_reader.specs.declared.NodeRead.the-variants.{Found};
+ghost use Rattle.tables.specs.Tables.{heightSize};
 use super::NodeRead;
 use super::NodeRecord;
 use super::fields;
@@ -17,10 +17,10 @@ use refusal::Refusal;
 
 // The record at a bit place: the heights go into the row.
 fn record_at(image: &[u8], at: usize, n: u32, row: &mut [u32]) -> NodeRecord
-    requires { ⌜ (n ≤ 16) × (length (now row) ≡ n * 7) × Inside (now image) at (nodeWidth 16 n) ⌝ }
+    requires { ⌜ (n ≤ 16) × (length (now row) ≡ n * heightSize) × Inside (now image) at (nodeWidth depthWidth n) ⌝ }
     ensures { λ r. ⌜ outcome (saidNode (Found r)) (now (row .exit)) ≡ recordIn n (unpacked (now (image .entry))) at ⌝ }
 {
-    image::rows::get_heights(image, at, 16, n as usize, row);
+    image::rows::get_heights(image, at, image::DEPTH_WIDTH, n as usize, row);
     let clock = Time(bits::get(image, at, 32));
     let neighbors = bits::get(image, at + 32, 16) as u16;
     let forming = bits::get(image, at + 48, 16) as u16;
@@ -33,7 +33,7 @@ fn record_at(image: &[u8], at: usize, n: u32, row: &mut [u32]) -> NodeRecord
 
 // The same at any place: the record is read from the byte on in which it starts.
 fn record_from(image: &[u8], at: usize, n: u32, row: &mut [u32]) -> NodeRecord
-    requires { ⌜ (n ≤ 16) × (length (now row) ≡ n * 7) × (at + nodeWidth 16 n ≤ 8 * length (now image)) ⌝ }
+    requires { ⌜ (n ≤ 16) × (length (now row) ≡ n * heightSize) × (at + nodeWidth depthWidth n ≤ 8 * length (now image)) ⌝ }
     ensures { λ r. ⌜ outcome (saidNode (Found r)) (now (row .exit)) ≡ recordIn n (unpacked (now (image .entry))) at ⌝ }
 {
     let first = at / 8;
@@ -42,10 +42,14 @@ fn record_from(image: &[u8], at: usize, n: u32, row: &mut [u32]) -> NodeRecord
 
 // 12, or the record.
 fn inside_at(image: &[u8], at: usize, n: u32, row: &mut [u32]) -> NodeRead
-    requires { ⌜ (n ≤ 16) × (length (now row) ≡ n * 7) ⌝ }
+    requires { ⌜ (n ≤ 16) × (length (now row) ≡ n * heightSize) ⌝ }
     ensures { λ r. ⌜ outcome (saidNode r) (now (row .exit)) ≡ nodeInside n (now (image .entry)) at (now (row .entry)) ⌝ }
 {
-    let fits = fields::inside(image, at, 64 + 96 * (n as usize));
+    let fits = fields::inside(
+        image,
+        at,
+        image::NODE_HEAD + image::HEIGHT_WIDTH * (n as usize),
+    );
     if !fits {
         return NodeRead::Refused(Refusal::BadEnd);
     }
@@ -57,7 +61,7 @@ fn inside_at(image: &[u8], at: usize, n: u32, row: &mut [u32]) -> NodeRead
 pub fn node_at(image: &[u8], at: usize, n: u32, row: &mut [u32]) -> NodeRead
     ensures { λ r. ⌜ outcome (saidNode r) (now (row .exit)) ≡ nodeOn n (now (image .entry)) at (now (row .entry)) ⌝ }
 {
-    let heights = (n as usize) * 7;
+    let heights = (n as usize) * tables::HEIGHT_SIZE;
     if (n < 1) | (16 < n) | (row.len() != heights) {
         return NodeRead::Refused(Refusal::Sizes);
     }

@@ -1,5 +1,5 @@
 -- The reader tests bytes, the definitions speak of bits: the bounds agree, and so each return of `walk_channel`, `whole` and `ends_at`
--- is what the definition says. Assumes nothing.
+-- is what the definition says.
 use Prim.Native.Nat.{ℕ, _+_, _-_, _*_, _/_, _%_, _≤_, _<_}
 use native.Mathlib.Omega.{arith}
 use mathlib.Core.Bool.{true, false}

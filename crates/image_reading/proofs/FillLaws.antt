@@ -1,5 +1,4 @@
 -- Pieces of w words each, put one behind the other into a list: what holds before each turn, after one more, and at the end.
--- Assumes nothing.
 use Prim.Native.Nat.{ℕ, suc, _+_, _-_, _*_, _≤_, _<_}
 use native.Mathlib.Nat.{zero-mul, suc-mul}
 use native.Mathlib.Numerals.{add-one}

@@ -1,5 +1,4 @@
 -- Laws of the reader.
--- Assumes nothing of its own: each module says what it assumes.
 pub mod Steps
 pub mod WalkLaws
 pub mod ByteLaws

@@ -4,24 +4,24 @@ use Prim.Native.Nat.{ℕ, suc, _+_, _-_, _*_, _≤_, _<_}
 use native.Mathlib.Numerals.{add-one}
 use native.Mathlib.Omega.{arith}
 use mathlib.Core.List.{List}
-use mathlib.Core.Logic.{inl, inr}
 use mathlib.Core.Path.{_≡_, refl, sym, ap, subst, _∙_}
 use borrow.Author.Tests.{eq-eqb, ne-eqb}
+use lib.Dec.{eqb}
 use lib.ListN.{length, replicate}
 use Rattle.bits.specs.Bits.{unpacked}
 use Rattle.bits.proofs.Bytes.{length-unpacked}
-use Rattle.image.specs.Parts.{Inside, rowFrom, cellFrom}
+use Rattle.image.specs.inner.Parts.{Inside, rowFrom, cellFrom}
 use Rattle.image.specs.Places.{fieldIn, nodePlace, walked, channelNext, channelsNext, channelsPlace, channelsFromPlace, channelPlace, imageEnd, recordsIn}
-use Rattle.image.specs.Records.{rowOf, cellOf, placesOf, messagesFrom}
 use Rattle.image.specs.Widths.{messageWidth, nodeWidth}
-use Rattle.image.proofs.PartLaws.{row-read, length-row-from, length-cell-from}
-use Rattle.tables.proofs.RowsMore.{length-rows, rows-same}
+use Rattle.image.proofs.PartLaws.{row-read, channel-eights}
+use Rattle.tables.proofs.RecordsLaws.{length-cell}
+use Rattle.tables.proofs.RowsMore.{rows-same}
 use Rattle.protocol.specs.Network.{Two}
-use Rattle.basics.proofs.Tests.{SameOrNot, equal?}
+use Rattle.tables.specs.Records.{rowWords, slotWords, cellWords}
 use Rattle.tables.specs.Rows.{rows}
-use Rattle.tables.specs.Tables.{width, cellWidth}
+use Rattle.tables.specs.Tables.{cellWidth}
 use Rattle.tables.proofs.RowsLaws.{row-fits}
-use Rattle.image_reading.specs.Cells.{cellIn, cellBehind, ChannelIn, ChannelsIn}
+use Rattle.image_reading.specs.inner.Cells.{cellIn, cellBehind, ChannelIn, ChannelsIn}
 use Rattle.image_reading.specs.Examine.{Walkable}
 use Rattle.image.proofs.ChannelLaws.{next-same, next-other}
 use Rattle.image.proofs.PlaceLaws.{channel-on, channels-on, start-in, walked-le}
@@ -35,14 +35,11 @@ node-inside {h} {d} {n} {xs} w i b =
     record { small = omega (arith, w .small); inside = omega (arith, w .inside, length-unpacked xs) }
 
 module _ (h d n : ℕ) (l : List ℕ) (i : ℕ) where
-  pub row-got : {row : List ℕ} → row ≡ rowFrom d n l (h + i * nodeWidth d n) → row ≡ rowOf n (recordsIn h d n l) (suc i)
+  pub row-got : {row : List ℕ} → row ≡ rowFrom d n l (h + i * nodeWidth d n) → row ≡ rowWords n (recordsIn h d n l) (suc i)
   unfolding nodePlace
   row-got f =
       let z : i ≡ suc i - 1 = omega arith in
       f ∙ ap (λ (x : ℕ). rowFrom d n l (h + x * nodeWidth d n)) z ∙ row-read h d n l (suc i)
-
-  pub length-row-got : length (rowOf n (recordsIn h d n l) (suc i)) ≡ width n
-  length-row-got = ap length (sym (row-got refl)) ∙ length-row-from d n l (h + i * nodeWidth d n)
 
 -- ---- a walk's place, one step more
 walked-next : (next : ℕ → ℕ → ℕ) (k q p : ℕ) {r : ℕ} → p ≡ walked next k q → r ≡ next (k + 1) p → r ≡ walked next (k + 1) q
@@ -54,7 +51,7 @@ walked-next next k q p e f =
 module _ (d : ℕ) (l : List ℕ) (u v q : ℕ) where
   -- from a node to itself
   pub own-cell : u ≡ v → replicate cellWidth 0 ≡ cellIn d l u v q
-  unfolding cellIn cellOf placesOf
+  unfolding cellIn cellWords slotWords
   own-cell e = rw (eq-eqb u v e)
 
   pub own-next : u ≡ v → q ≡ channelNext d l u v q
@@ -67,13 +64,6 @@ module _ (d : ℕ) (l : List ℕ) (u v q : ℕ) where
 
   pub other-next : (u ≡ v → ⊥) → q + 4 + fieldIn l q 4 * messageWidth d ≡ channelNext d l u v q
   other-next o = sym (next-other d l u v q (ne-eqb u v o))
-
-  length-cell-in : ChannelIn d l u v q → length (cellIn d l u v q) ≡ cellWidth
-  length-cell-in c = go (equal? u v)
-    where
-      go : SameOrNot u v → length (cellIn d l u v q) ≡ cellWidth
-      go (inl e) = ap length (sym (own-cell e))
-      go (inr o) = ap length (sym (other-cell o)) ∙ length-cell-from d l q (c .few o)
 
 -- its record stands inside the bytes
 pub channel-inside : {d : ℕ} {xs : List ℕ} {u v q : ℕ} → ChannelIn d (unpacked xs) u v q → (u ≡ v → ⊥)
@@ -118,15 +108,9 @@ module _ {d : ℕ} {l : List ℕ} {u q k p : ℕ} (at : ChannelAt d l u q k p) w
         small = omega (arith, c .small);
       }
 
-module _ {d n : ℕ} {l : List ℕ} {u q : ℕ} (c : ChannelsIn d n l u q) where
-  pub length-cell-behind : (j : ℕ) → j < n → length (cellBehind d l u q (suc j)) ≡ cellWidth
-  length-cell-behind j h =
-      let p : ℕ = walked (channelNext d l u) j q in
-      let at : ChannelAt d l u q j p = record { place = refl } in
-      ap length (sym (cell-behind at refl)) ∙ length-cell-in d l u (j + 1) p (channel-of at c h)
-
-  length-cells-from : length (rows n (cellBehind d l u q)) ≡ n * cellWidth
-  length-cells-from = length-rows n cellWidth (cellBehind d l u q) length-cell-behind
+pub length-cell-behind : (d : ℕ) (l : List ℕ) (u q v : ℕ) → length (cellBehind d l u q v) ≡ cellWidth
+unfolding cellBehind cellIn
+length-cell-behind d l u q v = length-cell _ (channel-eights d l (eqb u v) (walked (channelNext d l u) (v - 1) q))
 
 -- ---- all channels
 -- p is behind those from the first k nodes
@@ -160,17 +144,14 @@ module _ {h d n : ℕ} {l : List ℕ} {k p : ℕ} (at : ChannelsAt h d n l k p) 
       }
 
   -- the cells read are those of the records
-  pub cell-got : (v : ℕ) → cellBehind d l (suc k) p v ≡ cellOf (messagesFrom (recordsIn h d n l) (suc k) v)
-  unfolding cellBehind cellIn messagesFrom recordsIn channelPlace channelsFromPlace
+  pub cell-got : (v : ℕ) → cellBehind d l (suc k) p v ≡ cellWords (recordsIn h d n l .channel (suc k) v)
+  unfolding cellBehind cellIn recordsIn channelPlace channelsFromPlace
   cell-got v =
       let z : k ≡ suc k - 1 = omega arith in
       ap (λ (x : ℕ). cellBehind d l (suc k) x v) (at .place ∙ ap (λ (x : ℕ). walked (channelsNext d n l) x (channelsPlace h d n)) z)
 
   pub cells-got : {cells : List ℕ} → cells ≡ rows n (cellBehind d l (k + 1) p)
-      → cells ≡ rows n (λ v. cellOf (messagesFrom (recordsIn h d n l) (suc k) v))
+      → cells ≡ rows n (λ v. cellWords (recordsIn h d n l .channel (suc k) v))
   cells-got e =
       e ∙ ap (λ (x : ℕ). rows n (cellBehind d l x p)) (add-one k)
-      ∙ rows-same n (cellBehind d l (suc k) p) (λ v. cellOf (messagesFrom (recordsIn h d n l) (suc k) v)) (λ j b. cell-got (suc j))
-
-  pub length-cells-got : Walkable h d n l → k < n → length (rows n (λ v. cellOf (messagesFrom (recordsIn h d n l) (suc k) v))) ≡ n * cellWidth
-  length-cells-got w b = ap length (sym (cells-got refl)) ∙ length-cells-from (channels-of w b)
+      ∙ rows-same n (cellBehind d l (suc k) p) (λ v. cellWords (recordsIn h d n l .channel (suc k) v)) (λ j b. cell-got (suc j))

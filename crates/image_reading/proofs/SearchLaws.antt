@@ -1,30 +1,28 @@
 -- The search of the contents, row by row and pair by pair: what holds at the head of each loop, and that each return is the first fault.
--- Assumes, where rows and cells that were read are those of the tables, that the image is Walkable.
 use Prim.Native.Nat.{ℕ, zero, suc, _+_, _-_, _*_, _≤_, _<_}
 use native.Mathlib.Numerals.{add-one}
 use native.Mathlib.Omega.{arith}
 use mathlib.Core.Bool.{Bool, true, false, cond}
 use mathlib.Core.List.{List, [], _∷_}
 use mathlib.Core.Path.{_≡_, refl, sym, ap, ap₂, _∙_}
-use Rattle.image.specs.Parts.{rowFrom}
+use Rattle.image.specs.inner.Parts.{rowFrom}
 use Rattle.image.specs.Places.{recordsIn, tablesIn}
 use Rattle.image.specs.Widths.{nodeWidth}
-use Rattle.image.proofs.TablesRecords.{row-from, cell-from}
+use Rattle.image.proofs.PartLaws.{records-shaped}
 use Rattle.lent.specs.Check.{pairAt, faultInRow, faultFrom, orElse}
 use Rattle.refusal.specs.Refusal.{why, whyOf}
 use Rattle.refusal.specs.declared.Why.{Why}
 use Rattle.pairs.specs.Pair.{pairSound}
+use Rattle.tables.proofs.RecordsLaws.{row-from, cell-from}
 use Rattle.image_reading.specs.declared.Walk.{Walk}
 use Rattle.image_reading.specs.declared.Walk.the-variants.{At, Refused}
 use Rattle.refusal.specs.declared.Refusal.{Refusal}
 use Rattle.refusal.specs.declared.Refusal.the-variants.{Fault}
 use Rattle.refusal.proofs.RefusalLaws.{never-0}
-use Rattle.image_reading.specs.Cells.{cellIn, cellBehind}
-use Rattle.image_reading.specs.Examine.{Walkable}
-use Rattle.image_reading.specs.Search.{rowHolds, Searched}
+use Rattle.image_reading.specs.inner.Cells.{cellIn, cellBehind}
+use Rattle.image_reading.specs.inner.Search.{rowHolds, Searched}
 use Rattle.image_reading.specs.Walk.{saidWalk}
 use Rattle.image_reading.proofs.ReadLaws.{ChannelAt, ChannelsAt, row-got, cell-behind, cell-got}
-use Rattle.image_reading.proofs.ShapeLaws.{records-shaped}
 
 -- ---- one row
 -- the first v pairs of row u hold
@@ -111,15 +109,15 @@ fault-same s t u m v (suc k) e h =
     (fault-same s t u m (suc v) k (omega arith) h)
 
 -- row k + 1, whose channels start at p
-pub row-searched : {h d n : ℕ} {l : List ℕ} {k p : ℕ} → ChannelsAt h d n l k p → Walkable h d n l → k < n
+pub row-searched : {h d n : ℕ} {l : List ℕ} {k p : ℕ} → ChannelsAt h d n l k p → k < n
     → {row : List ℕ} → row ≡ rowFrom d n l (h + k * nodeWidth d n)
     → {x : Why} → x ≡ faultInRow (rowHolds d n l row p) (k + 1) 1 n → x ≡ faultInRow (pairAt n (tablesIn h d n l)) (k + 1) 1 n
 unfolding rowHolds pairAt tablesIn
-row-searched {h} {d} {n} {l} {k} {p} at w b {row} e said =
+row-searched {h} {d} {n} {l} {k} {p} at b {row} e said =
     said ∙ ap (λ (x : ℕ). faultInRow (rowHolds d n l row p) x 1 n) (add-one k)
     ∙ fault-same (rowHolds d n l row p) (pairAt n (tablesIn h d n l)) (suc k) n 0 n (omega arith)
     (λ j c.
     ap₂ (pairSound n (suc k) (suc j))
-    (row-got h d n l k e ∙ sym (row-from n (recordsIn h d n l) (records-shaped h d n l w) k b))
-    (cell-got at (suc j) ∙ sym (cell-from n (recordsIn h d n l) (records-shaped h d n l w) k j b c)))
+    (row-got h d n l k e ∙ sym (row-from n (recordsIn h d n l) (records-shaped h d n l) k b))
+    (cell-got at (suc j) ∙ sym (cell-from n (recordsIn h d n l) (records-shaped h d n l) k j b c)))
     ∙ ap (λ (x : ℕ). faultInRow (pairAt n (tablesIn h d n l)) x 1 n) (sym (add-one k))

@@ -1,5 +1,5 @@
--- The records of an image whose walk was accepted: heights of seven words, at most 8 messages of eight words a channel, every word of 32 bits.
--- Assumes that the image is Walkable; for the words, that its bits are 0 or 1 and a depth's width is from 1 to 32.
+-- The tables of an image's records: every word is of 32 bits.
+-- Assumes that its bits are 0 or 1 and a depth's width is at most 32.
 use Prim.Native.Nat.{ℕ, zero, suc, _+_, _-_, _*_, _^_, _≤_, _<_}
 use native.Mathlib.Decide.{decLt}
 use native.Mathlib.Nat.{lt-of-lt-of-le}
@@ -13,35 +13,15 @@ use lib.Pow.{pow-mono}
 use Rattle.bits.specs.Bits.{gathered}
 use Rattle.bits.proofs.Numbers.{Below, below-nil, below-cons, below-append, below-drop, below-zeros, below-set}
 use Rattle.image.specs.Places.{fieldIn, heightFrom, messagesOf, channelFrom, channelPlace, nodePlace, recordsIn, tablesIn}
-use Rattle.image.specs.Records.{rowOf, placesOf, cellOf, messagesFrom, tablesFrom}
 use Rattle.image.specs.Widths.{widthsOf, extendedOf, recordOf, heightWidth, messageWidth}
 use Rattle.image.proofs.ChannelLaws.{length-messages-of}
 use Rattle.image.proofs.FieldInLaws.{field-in-lt}
-use Rattle.image.proofs.PartLaws.{messages-wide}
-use Rattle.image.proofs.RecordLaws.{extended-low, extended-high, widths-narrow, gathered-lt, depth-lt, length-record}
+use Rattle.image.proofs.RecordLaws.{extended-low, extended-high, widths-narrow, gathered-lt, depth-lt}
 use Rattle.image.proofs.RowsMore.{below-rows}
-use Rattle.image.proofs.TablesRecords.{Shaped}
 use Rattle.lent.proofs.SoundTables.{Words}
-use Rattle.protocol.specs.Network.{Two}
 use Rattle.basics.proofs.AllOf.{AllOf, none, more}
+use Rattle.tables.specs.Records.{rowWords, slotWords, cellWords, tablesFrom}
 use Rattle.tables.specs.Rows.{rows}
-use Rattle.image_reading.specs.Examine.{Walkable}
-
--- ---- the shape
-
-pub records-shaped : (h d n : ℕ) (l : List ℕ) → Walkable h d n l → Shaped n (recordsIn h d n l)
-unfolding recordsIn heightFrom channelFrom
-records-shaped h d n l w = record {
-  heights = λ i j a b. length-record d 7 (omega arith) _;
-  messages = λ i j a b other. messages-wide d _ _;
-  few = λ i j a b other.
-      let q : ℕ = channelPlace h d n l (suc i) (suc j) in
-      let two : Two n (suc i) (suc j) =
-      record { one = record { low = omega arith; high = a }; other = record { low = omega arith; high = b }; differ = other } in
-      subst (λ (x : ℕ). x ≤ 8) (sym (length-messages-of d (fieldIn l q 4) (drop (q + 4) l))) (w .few (suc i) (suc j) two);
-}
-
--- ---- the words
 
 -- a depth of d bits, with its sign
 extended-lt : (d x : ℕ) → d ≤ 32 → x < 2 ^ d → extendedOf d x < 4294967296
@@ -69,7 +49,7 @@ module _ (d k : ℕ) (least : 4 ≤ k) (most : k ≤ 8) (narrow : d ≤ 32) (bs 
       below-set 4294967296 (gathered (take k (widthsOf d)) bs) 3 _ (extended-lt d _ narrow (depth-lt d k least most bs b))
       (below-gathered (take k (widthsOf d)) bs (widths-narrow d k narrow) b)
 
--- messages in their places, then zero words
+-- messages in their slots, then zero words
 abbrev AllBelow : List (List ℕ) → Type 0
 AllBelow ms = AllOf (Below 4294967296) ms
 
@@ -80,15 +60,15 @@ messages-below d (suc c) t narrow b =
     more (below-record d 8 (omega arith) (omega arith) narrow t b)
     (messages-below d c (drop (messageWidth d) t) narrow (below-drop 2 (messageWidth d) t b))
 
-below-places : (k : ℕ) (ms : List (List ℕ)) → AllBelow ms → Below 4294967296 (placesOf k ms)
-unfolding placesOf
-below-places zero ms h = below-nil 4294967296 (omega arith)
-below-places (suc k) [] h = below-append 4294967296 (replicate 8 0) (placesOf k []) (below-zeros 4294967296 8 (omega arith)) (below-places k [] none)
-below-places (suc k) (m ∷ ms) (more a h) = below-append 4294967296 m (placesOf k ms) a (below-places k ms h)
+below-slots : (k : ℕ) (ms : List (List ℕ)) → AllBelow ms → Below 4294967296 (slotWords k ms)
+unfolding slotWords
+below-slots zero ms h = below-nil 4294967296 (omega arith)
+below-slots (suc k) [] h = below-append 4294967296 (replicate 8 0) (slotWords k []) (below-zeros 4294967296 8 (omega arith)) (below-slots k [] none)
+below-slots (suc k) (m ∷ ms) (more a h) = below-append 4294967296 m (slotWords k ms) a (below-slots k ms h)
 
-below-cell : (ms : List (List ℕ)) → length ms < 16 → AllBelow ms → Below 4294967296 (cellOf ms)
-unfolding cellOf
-below-cell ms few h = below-cons 4294967296 (length ms) (placesOf 8 ms) (omega arith) (below-places 8 ms h)
+below-cell : (ms : List (List ℕ)) → length ms < 16 → AllBelow ms → Below 4294967296 (cellWords ms)
+unfolding cellWords
+below-cell ms few h = below-cons 4294967296 (length ms) (slotWords 8 ms) (omega arith) (below-slots 8 ms h)
 
 -- rows and cells
 module _ (h d n : ℕ) (l : List ℕ) (b : Below 2 l) (narrow : d ≤ 32) where
@@ -101,8 +81,8 @@ module _ (h d n : ℕ) (l : List ℕ) (b : Below 2 l) (narrow : d ≤ 32) where
       let at : ℕ = q + 64 + (v - 1) * heightWidth d in
       below-record d 7 (omega arith) (omega arith) narrow (drop at l) (below-drop 2 at l b)
 
-  row-below : (u : ℕ) → Below 4294967296 (rowOf n (recordsIn h d n l) u)
-  unfolding rowOf recordsIn
+  row-below : (u : ℕ) → Below 4294967296 (rowWords n (recordsIn h d n l) u)
+  unfolding rowWords recordsIn
   row-below u =
       let q : ℕ = nodePlace h d n u in
       let t : List ℕ = rows n (heightFrom d l q) in
@@ -113,8 +93,8 @@ module _ (h d n : ℕ) (l : List ℕ) (b : Below 2 l) (narrow : d ≤ 32) where
       (below-cons 4294967296 forming t (field-below (q + 48) 16 (omega arith))
       (below-rows 4294967296 n (heightFrom d l q) (omega arith) (height-below q))))
 
-  cell-below : (u v : ℕ) → Below 4294967296 (cellOf (messagesFrom (recordsIn h d n l) u v))
-  unfolding messagesFrom recordsIn channelFrom
+  cell-below : (u v : ℕ) → Below 4294967296 (cellWords (recordsIn h d n l .channel u v))
+  unfolding recordsIn channelFrom
   cell-below u v = go (eqb u v)
     where
       q : ℕ
@@ -126,15 +106,15 @@ module _ (h d n : ℕ) (l : List ℕ) (b : Below 2 l) (narrow : d ≤ 32) where
       few : length ms < 16
       few = subst (λ (x : ℕ). x < 16) (sym (length-messages-of d (fieldIn l q 4) (drop (q + 4) l))) (field-in-lt l q 4 b)
 
-      go : (x : Bool) → Below 4294967296 (cellOf (cond x [] ms))
+      go : (x : Bool) → Below 4294967296 (cellWords (cond x [] ms))
       go true = below-cell [] (omega arith) none
       go false = below-cell ms few (messages-below d (fieldIn l q 4) (drop (q + 4) l) narrow (below-drop 2 (q + 4) l b))
 
-pub records-words : (h d n : ℕ) (l : List ℕ) → Below 2 l → 1 ≤ d → d ≤ 32 → Walkable h d n l → Words (tablesIn h d n l)
+pub records-words : (h d n : ℕ) (l : List ℕ) → Below 2 l → d ≤ 32 → Words (tablesIn h d n l)
 unfolding tablesIn tablesFrom
-records-words h d n l b low narrow w = record {
-  nodes = below-rows 4294967296 n (rowOf n (recordsIn h d n l)) (omega arith) (row-below h d n l b narrow);
+records-words h d n l b narrow = record {
+  nodes = below-rows 4294967296 n (rowWords n (recordsIn h d n l)) (omega arith) (row-below h d n l b narrow);
   channels =
-      below-rows 4294967296 n (λ u. rows n (λ v. cellOf (messagesFrom (recordsIn h d n l) u v))) (omega arith)
-      (λ u. below-rows 4294967296 n (λ v. cellOf (messagesFrom (recordsIn h d n l) u v)) (omega arith) (cell-below h d n l b narrow u));
+      below-rows 4294967296 n (λ u. rows n (λ v. cellWords (recordsIn h d n l .channel u v))) (omega arith)
+      (λ u. below-rows 4294967296 n (λ v. cellWords (recordsIn h d n l .channel u v)) (omega arith) (cell-below h d n l b narrow u));
 }

@@ -1,5 +1,4 @@
 -- Steps of a walk: where they stop they stay, and what accepted steps show; then what one channel's accepted step shows.
--- Assumes nothing.
 use Prim.Native.Nat.{ℕ, zero, suc, _+_, _-_, _*_, _≤_, _<_}
 use native.Mathlib.Nat.{add-zero, add-suc, le-suc-iff}
 use native.Mathlib.Numerals.{add-one}

@@ -1,5 +1,5 @@
 -- An accepted walk ends where the channels end, and shows that all of them stand inside the image with at most 8 messages each;
--- and an image of which this holds is accepted. Assumes nothing.
+-- and an image of which this holds is accepted.
 use Prim.Native.Nat.{ℕ, suc, _+_, _-_, _*_, _≤_, _<_}
 use native.Mathlib.Nat.{mul-le-mul, le-trans}
 use native.Mathlib.Omega.{arith}

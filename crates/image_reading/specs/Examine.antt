@@ -6,7 +6,7 @@ use mathlib.Core.List.{List}
 use lib.ListN.{length}
 use Rattle.image.specs.Places.{fieldIn, channelPlace, imageEnd, tablesIn}
 use Rattle.lent.specs.Check.{firstFault}
-use Rattle.protocol.specs.Network.{Two}
+use Rattle.protocol.specs.Network.{Two, capacity}
 use Rattle.refusal.specs.Refusal.{why, whyOf}
 use Rattle.refusal.specs.declared.Why.{Why}
 use Rattle.image_reading.specs.declared.Walk.{Walk}
@@ -24,4 +24,4 @@ examined h d n l = afterWalk h d n l (walk h d n l)
 pub record Walkable (h d n : ℕ) (l : List ℕ) : Type 0 where
   pub inside : imageEnd h d n l ≤ length l
   pub small : imageEnd h d n l < 2 ^ 30
-  pub few : (u v : ℕ) → Two n u v → fieldIn l (channelPlace h d n l u v) 4 ≤ 8
+  pub few : (u v : ℕ) → Two n u v → fieldIn l (channelPlace h d n l u v) 4 ≤ capacity

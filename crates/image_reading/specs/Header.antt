@@ -6,6 +6,7 @@ use mathlib.Core.List.{List}
 use lib.Dec.{eqb, leb, ltb}
 use lib.ListN.{length}
 use Rattle.bits.specs.Bits.{field}
+use Rattle.image.specs.Widths.{headerLength}
 use Rattle.refusal.specs.Outcome.{Answered, accepted, refusedWith}
 use Rattle.refusal.specs.Refusal.{why, whyOf}
 use Rattle.image_reading.specs.declared.Fields.{Fields}
@@ -33,4 +34,4 @@ abbrev pub badHeader : ℕ → Answered Fields
 badHeader k = refusedWith noFields (why k 0 0)
 
 unfoldable pub headerOf : List ℕ → Answered Fields
-headerOf xs = cond (ltb (length xs) 4) (badHeader 10) (cond (headerHolds 1 32 xs) (accepted (fieldsOf xs)) (badHeader 11))
+headerOf xs = cond (ltb (length xs) 4) (badHeader 10) (cond (headerHolds 1 headerLength xs) (accepted (fieldsOf xs)) (badHeader 11))

@@ -1,32 +1,33 @@
 // The contents: every place of the tables that the records make, tested record by record as the lent tables are.
-// Assumes the bounds that each `requires` states.
 ghost use mathlib.Core.Path.{_≡_};
 ghost use Prim.Native.Nat.{_≤_, _<_};
 ghost use lib.ListN.{length};
 ghost use Rattle.bits.specs.Bits.{unpacked};
-ghost use Rattle.image.specs.Parts.{Depth};
+ghost use Rattle.image.specs.inner.Parts.{Depth};
 ghost use Rattle.image.specs.Places.{channelsNext, tablesIn};
 ghost use Rattle.lent.specs.Check.{saidCheck, faultInRow, firstFault};
 ghost use Rattle.protocol.specs.Network.{Node};
-ghost use Rattle.image_reading.specs.Cells.{ChannelsIn};
+ghost use Rattle.image_reading.specs.inner.Cells.{ChannelsIn};
 ghost use Rattle.image_reading.specs.Examine.{Walkable};
-ghost use Rattle.image_reading.specs.Search.{rowHolds, Searched};
+ghost use Rattle.image_reading.specs.inner.Search.{rowHolds, Searched};
 ghost use Rattle.tables.specs.Tables.{width, cellWidth};
 use super::Walk;
 use lent::Checked;
 use refusal::Refusal;
+use tables::CELL_WIDTH;
+use tables::MOST_ROW;
 
 // Room for one row of at most 16 nodes, and for one cell.
-fn blank_row() -> [u32; 115]
-    ensures { λ r. ⌜ length r ≡ 115 ⌝ }
+fn blank_row() -> [u32; MOST_ROW]
+    ensures { λ r. ⌜ length r ≡ width 16 ⌝ }
 {
-    [0; 115]
+    [0; MOST_ROW]
 }
 
-fn blank_cell() -> [u32; 65]
-    ensures { λ r. ⌜ length r ≡ 65 ⌝ }
+fn blank_cell() -> [u32; CELL_WIDTH]
+    ensures { λ r. ⌜ length r ≡ cellWidth ⌝ }
 {
-    [0; 65]
+    [0; CELL_WIDTH]
 }
 
 // The places of row u, whose channels start at a bit place: the place behind them, or the first pair at fault.
@@ -70,7 +71,7 @@ fn first_fault(
     ensures { λ r. ⌜ saidCheck r ≡ firstFault n (tablesIn h depth n (unpacked (now (image .entry)))) ⌝ }
 {
     let k = n as usize;
-    let step = 64 + (80 + depth as usize) * k;
+    let step = image::NODE_HEAD + (image::HEIGHT_REST + depth as usize) * k;
     let mut place = h + k * step;
     let mut u: u32 = 0;
     while u < n {
@@ -92,6 +93,6 @@ pub fn contents(image: &[u8], h: usize, depth: u8, n: u32) -> Checked
 {
     let mut row = blank_row();
     let mut cell = blank_cell();
-    let w = 3 + 7 * (n as usize);
+    let w = tables::ROW_HEAD + tables::HEIGHT_SIZE * (n as usize);
     first_fault(image, h, depth, n, &mut row[..w], &mut cell)
 }

@@ -1,12 +1,11 @@
 // The lent tables filled from an image's records.
-// Assumes the bounds that each `requires` states.
 ghost use mathlib.Core.Path.{_≡_};
 ghost use Prim.Native.Nat.{_*_, _≤_, _<_};
 ghost use lib.ListN.{length};
 ghost use Rattle.bits.specs.Bits.{unpacked};
-ghost use Rattle.image.specs.Parts.{Depth};
+ghost use Rattle.image.specs.inner.Parts.{Depth};
 ghost use Rattle.image.specs.Places.{channelNext, channelsNext, tablesIn};
-ghost use Rattle.image_reading.specs.Cells.{cellIn, cellBehind, ChannelIn, ChannelsIn};
+ghost use Rattle.image_reading.specs.inner.Cells.{cellIn, cellBehind, ChannelIn, ChannelsIn};
 ghost use Rattle.image_reading.specs.Examine.{Walkable};
 ghost use Rattle.tables.specs.Rows.{rows};
 ghost use Rattle.tables.specs.Tables.{width, cellWidth};
@@ -17,8 +16,8 @@ pub fn read_rows(image: &[u8], h: usize, depth: u8, n: u32, nodes: &mut [u32])
     ensures { λ _. ⌜ now (nodes .exit) ≡ tablesIn h depth n (unpacked (now (image .entry))) .nodes ⌝ }
 {
     let k = n as usize;
-    let wide = 3 + 7 * k;
-    let step = 64 + (80 + depth as usize) * k;
+    let wide = tables::ROW_HEAD + tables::HEIGHT_SIZE * k;
+    let step = image::NODE_HEAD + (image::HEIGHT_REST + depth as usize) * k;
     let mut u: usize = 0;
     while u < k {
         let a = u * wide;
@@ -50,8 +49,8 @@ fn read_cells_from(image: &[u8], at: usize, depth: u8, n: u32, u: u32, cells: &m
     let mut place = at;
     let mut v: u32 = 0;
     while v < n {
-        let a = v as usize * 65;
-        let e = a + 65;
+        let a = v as usize * tables::CELL_WIDTH;
+        let e = a + tables::CELL_WIDTH;
         place = read_cell(image, place, depth, u, v + 1, &mut cells[a..e]);
         v += 1;
     }
@@ -64,8 +63,8 @@ pub fn read_cells(image: &[u8], h: usize, depth: u8, n: u32, channels: &mut [u32
     ensures { λ _. ⌜ now (channels .exit) ≡ tablesIn h depth n (unpacked (now (image .entry))) .channels ⌝ }
 {
     let k = n as usize;
-    let wide = k * 65;
-    let mut place = h + k * (64 + (80 + depth as usize) * k);
+    let wide = k * tables::CELL_WIDTH;
+    let mut place = h + k * (image::NODE_HEAD + (image::HEIGHT_REST + depth as usize) * k);
     let mut u: u32 = 0;
     while u < n {
         let a = u as usize * wide;

@@ -4,10 +4,13 @@ ghost use mathlib.Core.Path.{_≡_};
 ghost use Prim.Native.Nat.{_≤_};
 ghost use Rattle.bits.specs.Bits.{unpacked};
 ghost use Rattle.image.specs.Places.{tablesIn};
+ghost use Rattle.image.specs.Widths.{headerLength, depthWidth};
 ghost use Rattle.lent.specs.Check.{saidCheck};
 ghost use Rattle.image_reading.specs.Examine.{Walkable, examined};
 ghost use Rattle.image_reading.specs.Header.{saidHeader, headerOf};
 ghost use Rattle.tables.specs.Tables.{given, atExit, Sized};
+use image::DEPTH_WIDTH;
+use image::HEADER_END;
 use lent::Checked;
 use refusal::Refusal;
 
@@ -45,33 +48,33 @@ pub fn decode(image: &[u8]) -> Header
     let length = bits::get(image, 4, 12);
     let n = bits::get(image, 16, 5);
     let spare = bits::get(image, 21, 11);
-    if (version == 1) & (length == 32) & ((1 <= n) & (n <= 16)) & (spare == 0) {
+    if (version == 1) & (length == image::HEADER_LENGTH) & ((1 <= n) & (n <= 16)) & (spare == 0) {
         return Header::Good(Fields { version, length, n });
     }
     Header::Refused(Refusal::BadHeader)
 }
 
-// All checks behind a header of 32 bits.
+// All checks behind the header.
 pub fn examine(image: &[u8], n: u32) -> Checked
     requires { ⌜ (1 ≤ n) × (n ≤ 16) ⌝ }
-    ensures { λ r. ⌜ saidCheck r ≡ examined 32 16 n (unpacked (now (image .entry))) ⌝ }
+    ensures { λ r. ⌜ saidCheck r ≡ examined headerLength depthWidth n (unpacked (now (image .entry))) ⌝ }
 {
-    match walking::whole(image, 32, 16, n) {
+    match walking::whole(image, HEADER_END, DEPTH_WIDTH, n) {
         Walk::Refused(why) => Checked::Refused(why),
         Walk::At(end) => {
             if !walking::ends_at(image, end) {
                 return Checked::Refused(Refusal::BadEnd);
             }
-            contents::contents(image, 32, 16, n)
+            contents::contents(image, HEADER_END, DEPTH_WIDTH, n)
         }
     }
 }
 
 // The tables of an image's records.
 pub fn read_tables(image: &[u8], n: u32, nodes: &mut [u32], channels: &mut [u32])
-    requires { ⌜ Sized n (given nodes channels) × Walkable 32 16 n (unpacked (now image)) ⌝ }
-    ensures { λ _. ⌜ atExit nodes channels ≡ tablesIn 32 16 n (unpacked (now (image .entry))) ⌝ }
+    requires { ⌜ Sized n (given nodes channels) × Walkable headerLength depthWidth n (unpacked (now image)) ⌝ }
+    ensures { λ _. ⌜ atExit nodes channels ≡ tablesIn headerLength depthWidth n (unpacked (now (image .entry))) ⌝ }
 {
-    filling::read_rows(image, 32, 16, n, nodes);
-    filling::read_cells(image, 32, 16, n, channels);
+    filling::read_rows(image, HEADER_END, DEPTH_WIDTH, n, nodes);
+    filling::read_cells(image, HEADER_END, DEPTH_WIDTH, n, channels);
 }

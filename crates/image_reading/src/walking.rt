@@ -1,10 +1,9 @@
 // The walk over nodes and channel counts, and the end of the image.
-// Assumes the bounds that each `requires` states.
 ghost use mathlib.Core.Path.{_≡_};
 ghost use Prim.Native.Nat.{_+_, _*_, _^_, _≤_, _<_};
 ghost use lib.ListN.{length};
 ghost use Rattle.bits.specs.Bits.{unpacked};
-ghost use Rattle.image.specs.Parts.{Depth};
+ghost use Rattle.image.specs.inner.Parts.{Depth};
 ghost use Rattle.image_reading.specs.Walk.{channelStep, channelsFromWalk, channelsWalk, walk, endsAt};
 use super::Walk;
 use refusal::Refusal;
@@ -21,10 +20,10 @@ fn walk_channel(bytes: &[u8], depth: u8, u: u32, v: u32, at: usize) -> Walk
         return Walk::Refused(Refusal::BadEnd);
     }
     let c = bits::get(bytes, at, 4) as usize;
-    if c > 8 {
+    if c > tables::CAPACITY {
         return Walk::Refused(Refusal::Fault(u, v));
     }
-    let next = at + 4 + c * (112 + depth as usize);
+    let next = at + 4 + c * (image::MESSAGE_REST + depth as usize);
     if (next + 7) / 8 > bytes.len() {
         return Walk::Refused(Refusal::BadEnd);
     }
@@ -73,7 +72,7 @@ pub fn whole(bytes: &[u8], h: usize, depth: u8, n: u32) -> Walk
     ensures { λ r. ⌜ r ≡ walk h depth n (unpacked (now (bytes .entry))) ⌝ }
 {
     let k = n as usize;
-    let start = h + k * (64 + (80 + depth as usize) * k);
+    let start = h + k * (image::NODE_HEAD + (image::HEIGHT_REST + depth as usize) * k);
     if (start + 7) / 8 > bytes.len() {
         return Walk::Refused(Refusal::BadEnd);
     }

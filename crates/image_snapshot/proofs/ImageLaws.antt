@@ -3,19 +3,17 @@
 use Prim.Native.Nat.{ℕ, suc, _+_, _-_, _≤_, _<_}
 use native.Mathlib.Omega.{arith}
 use mathlib.Core.Bool.{Bool, true, false, cond}
-use mathlib.Core.Path.{_≡_, refl, ap, _∙_}
-use borrow.Author.Tests.{le-leb, lt-ltb, le-ltb}
-use lib.ListN.{length, drop}
+use mathlib.Core.Path.{_≡_, refl, ap}
+use borrow.Author.Tests.{eq-eqb, ne-eqb, le-leb, lt-ltb, le-ltb}
+use lib.ListN.{length, drop, length-map}
 use Rattle.bits.specs.Bits.{field, unpacked}
 use Rattle.bits.proofs.Bytes.{length-unpacked}
 use Rattle.image.specs.Image.{imageOf, image}
 use Rattle.image.specs.Places.{fieldIn, channelFrom, channelPlace, imageEnd, recordsIn, tablesIn}
-use Rattle.image.specs.Records.{recordsOf}
 use Rattle.image.proofs.ChannelLaws.{length-messages-of}
 use Rattle.image.proofs.ImageBits.{length-image, length-whole, number-zeros}
 use Rattle.image.proofs.NetworkFits.{network-fit}
-use Rattle.image.proofs.ReadBack.{Fit, Agree}
-use Rattle.image.proofs.TablesRecords.{length-words, network-tables, agree-tables}
+use Rattle.image.proofs.ReadBack.{Fit}
 use Rattle.image.proofs.Whole.{version-read, header-read, count-read, spare-read, image-read, image-end, image-inside, image-no-more}
 use Rattle.lent.specs.Check.{checkOn, firstFault}
 use Rattle.lent.proofs.SoundNetworks.{sound-check}
@@ -28,11 +26,14 @@ use Rattle.image_reading.specs.Header.{fieldsOf, headerHolds, headerOf}
 use Rattle.image_reading.specs.Walk.{walk, endsAt}
 use Rattle.image_reading.specs.declared.Walk.the-variants.{At}
 use Rattle.image_reading.proofs.WalkLaws.{walk-goes}
+use Rattle.tables.specs.Cell.{messageWords}
 use Rattle.tables.specs.Load.{tablesOf}
+use Rattle.tables.specs.Records.{recordsOf}
 use Rattle.tables.specs.Tables.{sized}
 use Rattle.tables.proofs.Back.{storable}
 use Rattle.refusal.specs.Outcome.{accepted}
 use Rattle.refusal.specs.Refusal.{why}
+use Rattle.tables.proofs.RecordsLaws.{Agree, agree-tables}
 
 module _ (n : ℕ) (low : 1 ≤ n) (few : n ≤ 16) (p : Network) (holds : sound n p ≡ true) (inside : restrict n p ≡ p) where
   fits : Fits n p
@@ -76,19 +77,21 @@ module _ (n : ℕ) (low : 1 ≤ n) (few : n ≤ 16) (p : Network) (holds : sound
 
   -- the tables that its records make are the network's
   pub image-tables : tablesIn 32 16 n (unpacked (image n p)) ≡ tablesOf n p
-  unfolding tablesIn
-  image-tables =
-      agree-tables n (recordsIn 32 16 n (unpacked (image n p))) (recordsOf n p) agree ∙ network-tables n p (diagonal n p fits)
+  unfolding tablesIn tablesOf
+  image-tables = agree-tables n (recordsIn 32 16 n (unpacked (image n p))) (recordsOf n p) agree unused
+    where
+      unused : (i : ℕ) → i < n → recordsIn 32 16 n (unpacked (image n p)) .channel (suc i) (suc i) ≡ recordsOf n p .channel (suc i) (suc i)
+      unused i l = unfold recordsIn recordsOf in rw (eq-eqb (suc i) (suc i) refl, diagonal n p fits (suc i))
 
   few-at : (i j : ℕ) → i < n → j < n → (suc i ≡ suc j → ⊥) → fieldIn (unpacked (image n p)) (channelPlace 32 16 n (unpacked (image n p)) (suc i) (suc j)) 4 ≤ 8
   unfolding recordsIn recordsOf channelFrom
   few-at i j l m d =
       let q = channelPlace 32 16 n (unpacked (image n p)) (suc i) (suc j) in
-      let same = ap length (agree .channels i j l m d) in
+      let same = rw (ne-eqb (suc i) (suc j) d) at (ap length (agree .channels i j l m d)) in
       omega (
         arith,
         same,
-        length-words (p .channel (suc i) (suc j)),
+        length-map (p .channel (suc i) (suc j)) messageWords,
         fits .lengths (suc i) (suc j),
         length-messages-of 16 (fieldIn (unpacked (image n p)) q 4) (drop (q + 4) (unpacked (image n p))),
       )

@@ -1,5 +1,4 @@
 -- Laws of saving and restoring.
--- Assumes nothing of its own: each module says what it assumes.
 pub mod ImageLaws
 pub mod RestoreSaved
 pub mod AcceptedLaws

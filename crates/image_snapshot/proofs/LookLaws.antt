@@ -11,7 +11,7 @@ use lib.ListN.{length}
 use Rattle.bits.specs.Bits.{unpacked}
 use Rattle.bits.proofs.Bytes.{length-unpacked}
 use Rattle.basics.proofs.Tests.{clash, Choice, yes!, no!, choice, and-left, and-right}
-use Rattle.image.specs.Parts.{Inside}
+use Rattle.image.specs.inner.Parts.{Inside}
 use Rattle.image.specs.Places.{nodePlace, channelsPlace}
 use Rattle.image.specs.Widths.{nodeWidth}
 use Rattle.image.proofs.PlaceLaws.{node-in, start-in}

@@ -1,7 +1,6 @@
 -- A look at node k of a saved image, where k's record starts, gives k's own data word for word: clock, both sets, n heights.
 -- Assumes 1 to 16 nodes, and a network that breaks no rule and holds nothing beyond node n; or tables that pass the check, of words of 32 bits.
-use Prim.Native.Nat.{ℕ, suc, _-_, _*_, _≤_}
-use native.Mathlib.Omega.{arith}
+use Prim.Native.Nat.{ℕ, _*_, _≤_}
 use mathlib.Core.Bool.{true}
 use mathlib.Core.List.{List}
 use mathlib.Core.Path.{_≡_, sym, ap, _∙_}
@@ -9,10 +8,9 @@ use lib.ListN.{length, drop}
 use Rattle.bits.specs.Bits.{field, unpacked}
 use Rattle.height.specs.Words.{heightWords}
 use Rattle.image.specs.Image.{image}
-use Rattle.image.specs.Parts.{rowFrom}
+use Rattle.image.specs.inner.Parts.{rowFrom}
 use Rattle.image.specs.Places.{nodePlace, recordsIn, tablesIn}
-use Rattle.image.proofs.PartLaws.{row-read}
-use Rattle.image.proofs.TablesRecords.{row-from}
+use Rattle.image.proofs.PartLaws.{row-read, records-shaped}
 use Rattle.lent.specs.Check.{checkOn}
 use Rattle.lent.proofs.CheckLaws.{sound-sized}
 use Rattle.lent.proofs.SoundLoads.{sound-loads, load-inside}
@@ -20,13 +18,13 @@ use Rattle.lent.proofs.SoundTables.{Words, sound-fits}
 use Rattle.nodeset.specs.NodeSet.{setOf}
 use Rattle.protocol.specs.Network.{Node, Network, restrict}
 use Rattle.protocol.specs.Holds.{sound}
-use Rattle.image_reading.specs.Examine.{Walkable}
-use Rattle.image_reading.proofs.ShapeLaws.{records-shaped}
 use Rattle.tables.specs.Load.{load, tablesOf}
-use Rattle.tables.specs.Row.{clockIn, neighborsIn, formingIn, nodeWords}
+use Rattle.tables.specs.Records.{recordsOf, rowWords}
+use Rattle.tables.specs.Row.{clockIn, neighborsIn, formingIn}
 use Rattle.tables.specs.Rows.{rows}
 use Rattle.tables.specs.Tables.{Tables, nodeOf}
 use Rattle.tables.proofs.Back.{node-of}
+use Rattle.tables.proofs.RecordsLaws.{node-from}
 use Rattle.tables.proofs.TablesLaws.{tables-back}
 use Rattle.image_snapshot.specs.ReadNode.{Looked, readNodeOn}
 use Rattle.image_reader.specs.Record.{recordIn}
@@ -34,7 +32,7 @@ use Rattle.image_reading.specs.declared.Fields.{Fields}
 use Rattle.refusal.specs.Outcome.{accepted, Answered, outcome}
 use Rattle.refusal.specs.Refusal.{why}
 use Rattle.refusal.specs.declared.Why.{Why}
-use Rattle.image_snapshot.proofs.AcceptedLaws.{header-good, examined-good}
+use Rattle.image_snapshot.proofs.AcceptedLaws.{header-good}
 use Rattle.image_snapshot.proofs.ImageLaws.{image-header, image-fields, image-tables, image-examined}
 use Rattle.image_snapshot.proofs.NodePlaces.{own-place}
 
@@ -44,13 +42,9 @@ rowLooked row =
     outcome (accepted (record { clock = record { 0 = clockIn row }; neighbors = neighborsIn row; forming = formingIn row })) (drop 3 row)
 
 -- the record at a node's place is that node's row of the image's tables
-row-looked : (n : ℕ) (l : List ℕ) → Walkable 32 16 n l → (k : ℕ) → Node n k
-    → recordIn n l (nodePlace 32 16 n k) ≡ rowLooked (nodeOf n k (tablesIn 32 16 n l .nodes))
+row-looked : (n : ℕ) (l : List ℕ) (k : ℕ) → Node n k → recordIn n l (nodePlace 32 16 n k) ≡ rowLooked (nodeOf n k (tablesIn 32 16 n l .nodes))
 unfolding recordIn rowFrom tablesIn
-row-looked n l walks k node =
-    let e : suc (k - 1) ≡ k = omega (arith, node .low) in
-    let row = row-from n (recordsIn 32 16 n l) (records-shaped 32 16 n l walks) (k - 1) (omega (arith, node .low, node .high)) in
-    ap rowLooked (row-read 32 16 n l k ∙ sym (rw e at row))
+row-looked n l k node = ap rowLooked (row-read 32 16 n l k ∙ sym (node-from n (recordsIn 32 16 n l) (records-shaped 32 16 n l) k node))
 
 module _ (n : ℕ) (low : 1 ≤ n) (few : n ≤ 16) (p : Network) (holds : sound n p ≡ true) (inside : restrict n p ≡ p)
     (k : ℕ) (node : Node n k) (row : List ℕ) (wide : length row ≡ n * 7) where
@@ -61,13 +55,13 @@ module _ (n : ℕ) (low : 1 ≤ n) (few : n ≤ 16) (p : Network) (holds : sound
       let header = header-good xs (ap (λ (s : Answered Fields). s .why .number) (image-header n low few p holds inside)) in
       let passes = ap (λ (c : Why). c .number) (image-examined n low few p holds inside) in
       rw count at (own-place xs row (record { header = header; wide = rw count wide; contents = rw count passes }) k (rw count node))
-      ∙ row-looked n (unpacked xs) (examined-good n (unpacked xs) few passes .walkable) k node
+      ∙ row-looked n (unpacked xs) k node
       ∙ ap (λ (t : Tables). rowLooked (nodeOf n k (t .nodes))) (image-tables n low few p holds inside)
 
   pub look-image : readNodeOn (image n p) k (nodePlace 32 16 n k) row
       ≡ outcome (accepted (record { clock = record { 0 = p .clock k }; neighbors = setOf n (p .neighbors k); forming = setOf n (p .forming k) }))
       (rows n (λ v. heightWords (p .height k v)))
-  unfolding nodeWords
+  unfolding rowWords recordsOf
   look-image = look-tables ∙ ap rowLooked (node-of n p k node)
 
 pub look-saved : (n : ℕ) (t : Tables) → Words t → checkOn n t .number ≡ 0 → (k : ℕ) → Node n k → (row : List ℕ) → length row ≡ n * 7

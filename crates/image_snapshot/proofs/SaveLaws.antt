@@ -11,7 +11,7 @@ use Rattle.lent.specs.declared.Checked.the-variants.{Sound, Refused}
 use Rattle.refusal.proofs.RefusalLaws.{never-0}
 use Rattle.refusal.specs.declared.Refusal.{Refusal}
 use Rattle.lent.proofs.SoundTables.{sound-fits}
-use Rattle.tables.specs.Fit.{TablesFit}
+use Rattle.tables.specs.inner.Fit.{TablesFit}
 use Rattle.tables.specs.Load.{load}
 use Rattle.tables.specs.Tables.{Tables}
 use Rattle.image_snapshot.specs.Save.{saveChecked, saveOn}

@@ -1,68 +1,51 @@
 -- Saving what was restored gives the bytes back: the tables that an accepted image fills pass the check, and their image is it again.
 -- Assumes that the bytes are bytes (below 256).
-use Prim.Native.Nat.{ℕ, suc}
+use Prim.Native.Nat.{ℕ, suc, _≤_, _<_}
 use native.Mathlib.Omega.{arith}
 use mathlib.Core.List.{List}
 use mathlib.Core.Path.{_≡_, refl, sym, _∙_}
+use lib.ListN.{length, length-map}
 use Rattle.bits.specs.Bits.{field, unpacked}
 use Rattle.bits.proofs.Numbers.{Below}
 use Rattle.bits.proofs.Bytes.{below-unpacked, length-unpacked}
 use Rattle.image.specs.Image.{image}
 use Rattle.image.specs.Places.{fieldIn, recordsIn, tablesIn}
-use Rattle.image.specs.Records.{recordsOf}
 use Rattle.image.proofs.ImageBits.{same-image}
-use Rattle.image.proofs.ReadBack.{Agree}
-use Rattle.image.proofs.TablesRecords.{Shaped, length-words, network-tables, tables-tell, rows-length-is, cells-length}
+use Rattle.image.proofs.PartLaws.{records-shaped}
 use Rattle.image.proofs.Whole.{Accepted, image-of-read}
 use Rattle.lent.specs.Check.{checkOn}
 use Rattle.lent.proofs.CheckLaws.{is-sized, check-places}
 use Rattle.lent.proofs.SoundLoads.{sound-loads, load-inside}
 use Rattle.lent.proofs.SoundTables.{Words, sound-fits as tables-fit}
 use Rattle.protocol.specs.Network.{Network}
-use Rattle.protocol.proofs.Soundness.{Fits, diagonal}
+use Rattle.protocol.proofs.Soundness.{Fits}
 use Rattle.protocol.proofs.SoundStep.{sound-fits}
-use Rattle.tables.specs.Fit.{TablesFit}
-use Rattle.tables.specs.Load.{load}
+use Rattle.tables.specs.inner.Fit.{TablesFit}
+use Rattle.tables.specs.Cell.{messageWords}
+use Rattle.tables.specs.Load.{load, tablesOf}
+use Rattle.tables.specs.Records.{recordsOf}
 use Rattle.tables.specs.Tables.{Tables, Sized}
-use Rattle.tables.proofs.Back.{words-length}
+use Rattle.tables.proofs.RecordsLaws.{Agree, network-shaped, made-sized, tables-tell}
 use Rattle.tables.proofs.TablesLaws.{tables-back}
-use Rattle.image_writing.proofs.WordsLaws.{message-words}
 use Rattle.image_snapshot.specs.Restore.{restoreOn}
 use Rattle.image_snapshot.specs.Save.{saveChecked, saveOn}
 use Rattle.image_snapshot.proofs.AcceptedLaws.{HeaderGood, ExaminedGood, restore-good}
-use Rattle.image_reading.proofs.ShapeLaws.{records-shaped, records-words}
+use Rattle.image_reading.proofs.ShapeLaws.{records-words}
 use Rattle.refusal.specs.Outcome.{putFront}
-
--- a network's records
-network-shaped : (n : ℕ) (p : Network) → Fits n p → Shaped n (recordsOf n p)
-unfolding recordsOf
-network-shaped n p fits = record {
-  heights = λ i j l m. words-length (p .height (suc i) (suc j));
-  messages = λ i j l m d. message-words (p .channel (suc i) (suc j));
-  few = λ i j l m d. omega (arith, length-words (p .channel (suc i) (suc j)), fits .lengths (suc i) (suc j));
-}
 
 -- ---- an image that was accepted, of n nodes by its header
 
 module _ (xs : List ℕ) (bytes : Below 256 xs) (head : HeaderGood xs) (good : ExaminedGood (field xs 16 5) (unpacked xs)) where
-  shaped : Shaped (field xs 16 5) (recordsIn 32 16 (field xs 16 5) (unpacked xs))
-  shaped = records-shaped 32 16 (field xs 16 5) (unpacked xs) (good .walkable)
-
   pub size : Sized (field xs 16 5) (tablesIn 32 16 (field xs 16 5) (unpacked xs))
   unfolding tablesIn
-  size = record {
-    low = head .low;
-    few = head .few;
-    nodes = rows-length-is (field xs 16 5) (recordsIn 32 16 (field xs 16 5) (unpacked xs)) shaped;
-    channels = cells-length (field xs 16 5) (recordsIn 32 16 (field xs 16 5) (unpacked xs)) shaped;
-  }
+  size = made-sized (field xs 16 5) _ (records-shaped 32 16 (field xs 16 5) (unpacked xs)) (head .low) (head .few)
 
   -- the tables pass the check
   pub passes : checkOn (field xs 16 5) (tablesIn 32 16 (field xs 16 5) (unpacked xs)) .number ≡ 0
   passes = rw (← check-places (field xs 16 5) (tablesIn 32 16 (field xs 16 5) (unpacked xs)) (is-sized _ _ size)) (good .sound)
 
   words : Words (tablesIn 32 16 (field xs 16 5) (unpacked xs))
-  words = records-words 32 16 (field xs 16 5) (unpacked xs) (below-unpacked xs) (omega arith) (omega arith) (good .walkable)
+  words = records-words 32 16 (field xs 16 5) (unpacked xs) (below-unpacked xs) (omega arith)
 
   tables-fit-is : TablesFit (field xs 16 5) (tablesIn 32 16 (field xs 16 5) (unpacked xs))
   tables-fit-is = tables-fit _ _ words passes
@@ -75,11 +58,13 @@ module _ (xs : List ℕ) (bytes : Below 256 xs) (head : HeaderGood xs) (good : E
   fits = sound-fits _ _ (load-inside _ _ tables-fit-is) (sound-loads _ _ words passes)
 
   agree : Agree (field xs 16 5) (recordsOf (field xs 16 5) p) (recordsIn 32 16 (field xs 16 5) (unpacked xs))
-  unfolding tablesIn p
+  unfolding tablesIn tablesOf p
   agree =
       tables-tell (field xs 16 5) (recordsOf (field xs 16 5) p) (recordsIn 32 16 (field xs 16 5) (unpacked xs))
-      (network-shaped _ p fits) shaped
-      (network-tables _ p (diagonal _ p fits) ∙ tables-back _ _ tables-fit-is)
+      (network-shaped _ p) (records-shaped 32 16 (field xs 16 5) (unpacked xs)) short (tables-back _ _ tables-fit-is)
+    where
+      short : (i j : ℕ) → i < field xs 16 5 → j < field xs 16 5 → length (recordsOf (field xs 16 5) p .channel (suc i) (suc j)) ≤ 8
+      short i j l m = unfold recordsOf in omega (arith, length-map (p .channel (suc i) (suc j)) messageWords, fits .lengths (suc i) (suc j))
 
   accepted : Accepted 1 32 16 (field xs 16 5) xs
   unfolding field fieldIn

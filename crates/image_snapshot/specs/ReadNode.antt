@@ -7,12 +7,14 @@ use lib.Dec.{eqb}
 use lib.ListN.{length}
 use Rattle.bits.specs.Bits.{unpacked}
 use Rattle.image.specs.Places.{nodePlace}
+use Rattle.image.specs.Widths.{headerLength, depthWidth}
 use Rattle.image_reader.specs.Record.{recordIn, unread}
 use Rattle.image_reader.specs.declared.NodeRecord.{NodeRecord}
 use Rattle.image_reading.specs.Examine.{examined}
 use Rattle.image_reading.specs.Header.{headerOf}
 use Rattle.image_reading.specs.declared.Fields.{Fields}
 use Rattle.protocol.specs.Network.{isNode}
+use Rattle.tables.specs.Tables.{heightSize}
 use Rattle.refusal.specs.Outcome.{Answered, Outcome}
 use Rattle.refusal.specs.Refusal.{why}
 use Rattle.refusal.specs.declared.Why.{Why}
@@ -25,7 +27,7 @@ Looked = Outcome (Answered NodeRecord) (List ℕ)
 unfoldable pub nodePlaced : ℕ → ℕ → List ℕ → ℕ → ℕ → List ℕ → Looked
 nodePlaced h n l k place row =
     cond (isNode n k)
-    (cond (eqb place (nodePlace h 16 n k)) (recordIn n l place) (unread (why 13 0 0) row))
+    (cond (eqb place (nodePlace h depthWidth n k)) (recordIn n l place) (unread (why 13 0 0) row))
     (unread (why 3 0 0) row)
 
 -- by what the checks behind the header say: 2 or 12, else on
@@ -35,7 +37,7 @@ nodeExamined h n l k place row c = cond (eqb (c .number) 0) (nodePlaced h n l k 
 -- 1 for a row not of n heights, else the checks of the whole image
 unfoldable pub nodeSized : ℕ → ℕ → List ℕ → ℕ → ℕ → List ℕ → Looked
 nodeSized h n l k place row =
-    cond (eqb (length row) (n * 7)) (nodeExamined h n l k place row (examined 32 16 n l)) (unread (why 1 0 0) row)
+    cond (eqb (length row) (n * heightSize)) (nodeExamined h n l k place row (examined headerLength depthWidth n l)) (unread (why 1 0 0) row)
 
 -- by what the header says: 10 or 11, else on with its fields
 unfoldable pub nodeHeaded : List ℕ → ℕ → ℕ → List ℕ → Answered Fields → Looked

@@ -6,6 +6,7 @@ use mathlib.Core.List.{List}
 use lib.Dec.{eqb}
 use Rattle.bits.specs.Bits.{unpacked}
 use Rattle.image.specs.Places.{tablesIn}
+use Rattle.image.specs.Widths.{headerLength, depthWidth}
 use Rattle.image_reading.specs.Examine.{examined}
 use Rattle.image_reading.specs.Header.{headerOf}
 use Rattle.image_reading.specs.declared.Fields.{Fields}
@@ -16,10 +17,10 @@ use Rattle.tables.specs.Tables.{Tables, sized}
 
 -- by what the checks behind the header say: 2 or 12, else the tables that the image's records make
 unfoldable pub restoreExamined : ℕ → List ℕ → Tables → Why → Outcome Why Tables
-restoreExamined n l t c = outcome c (cond (eqb (c .number) 0) (tablesIn 32 16 n l) t)
+restoreExamined n l t c = outcome c (cond (eqb (c .number) 0) (tablesIn headerLength depthWidth n l) t)
 
 unfoldable pub restoreOf : ℕ → List ℕ → Tables → Outcome Why Tables
-restoreOf n l t = cond (sized n t) (restoreExamined n l t (examined 32 16 n l)) (outcome (why 1 0 0) t)
+restoreOf n l t = cond (sized n t) (restoreExamined n l t (examined headerLength depthWidth n l)) (outcome (why 1 0 0) t)
 
 -- by what the header says: 10 or 11, else on with its n
 unfoldable pub restoreHeaded : List ℕ → Tables → Answered Fields → Outcome Why Tables

@@ -4,11 +4,13 @@ ghost use Prim.Native.Nat.{_*_, _≤_, _<_};
 ghost use lib.ListN.{length};
 ghost use Rattle.bits.specs.Bits.{unpacked};
 ghost use Rattle.image.specs.Places.{nodePlace};
+ghost use Rattle.image.specs.Widths.{headerLength, depthWidth};
 ghost use Rattle.image_reader.specs.Record.{saidNode};
 ghost use Rattle.image_reading.specs.Examine.{Walkable};
 ghost use Rattle.image_snapshot.specs.ReadNode.{nodePlaced, nodeSized};
 ghost use Rattle.protocol.specs.Network.{Node};
 ghost use Rattle.refusal.specs.Outcome.{outcome};
+ghost use Rattle.tables.specs.Tables.{heightSize};
 use image_reader::NodeRead;
 use image_reading::Fields;
 use lent::Checked;
@@ -16,11 +18,11 @@ use refusal::Refusal;
 
 // 1 for the row, then the checks of the whole image.
 pub fn headed(image: &[u8], fields: Fields, k: u32, place: u64, row: &mut [u32]) -> NodeRead
-    requires { ⌜ (fields .length ≡ 32) × (1 ≤ fields .n) × (fields .n ≤ 16) ⌝ }
+    requires { ⌜ (fields .length ≡ headerLength) × (1 ≤ fields .n) × (fields .n ≤ 16) ⌝ }
     ensures { λ r. ⌜ outcome (saidNode r) (now (row .exit))
         ≡ nodeSized (fields .length) (fields .n) (unpacked (now (image .entry))) k place (now (row .entry)) ⌝ }
 {
-    if row.len() != (fields.n as usize) * 7 {
+    if row.len() != (fields.n as usize) * tables::HEIGHT_SIZE {
         return NodeRead::Refused(Refusal::Sizes);
     }
     match image_reading::examine(image, fields.n) {
@@ -29,19 +31,19 @@ pub fn headed(image: &[u8], fields: Fields, k: u32, place: u64, row: &mut [u32])
     }
 }
 
-// Where node k's record starts: header length + (k - 1)(64 + 96 n).
+// Where node k's record starts: the header, then the records of the nodes before.
 fn start(fields: Fields, k: u32) -> usize
-    requires { ⌜ (fields .length ≡ 32) × (fields .n ≤ 16) × Node (fields .n) k ⌝ }
-    ensures { λ r. ⌜ (r ≡ nodePlace (fields .length) 16 (fields .n) k) × (r < 65536) ⌝ }
+    requires { ⌜ (fields .length ≡ headerLength) × (fields .n ≤ 16) × Node (fields .n) k ⌝ }
+    ensures { λ r. ⌜ (r ≡ nodePlace (fields .length) depthWidth (fields .n) k) × (r < 65536) ⌝ }
 {
     let n = fields.n as usize;
     let before = (k - 1) as usize;
-    fields.length as usize + before * (64 + 96 * n)
+    fields.length as usize + before * (image::NODE_HEAD + image::HEIGHT_WIDTH * n)
 }
 
 // 3, 13, or the record where a reader stands at that place; the reader refuses none that is inside.
 fn placed(image: &[u8], fields: Fields, k: u32, place: u64, row: &mut [u32]) -> NodeRead
-    requires { ⌜ (fields .length ≡ 32) × (fields .n ≤ 16) × (length (now row) ≡ fields .n * 7) × Walkable 32 16 (fields .n) (unpacked (now image)) ⌝ }
+    requires { ⌜ (fields .length ≡ headerLength) × (fields .n ≤ 16) × (length (now row) ≡ fields .n * heightSize) × Walkable headerLength depthWidth (fields .n) (unpacked (now image)) ⌝ }
     ensures { λ r. ⌜ outcome (saidNode r) (now (row .exit))
         ≡ nodePlaced (fields .length) (fields .n) (unpacked (now (image .entry))) k place (now (row .entry)) ⌝ }
 {

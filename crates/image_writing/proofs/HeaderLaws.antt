@@ -1,5 +1,4 @@
 -- The header's four fields written end to end are the header.
--- Assumes nothing.
 use Prim.Native.Nat.{ℕ, _≤_}
 use native.Mathlib.Omega.{arith}
 use mathlib.Core.List.{List, _++_}

@@ -11,7 +11,7 @@ use borrow.Author.Tests.{eq-eqb, ne-eqb}
 use lib.Dec.{eqb}
 use lib.ListN.{length, length-append}
 use Rattle.bits.proofs.Numbers.{Below, below-nil}
-use Rattle.image.specs.Parts.{Inside, Depth, rowBits, cellBits}
+use Rattle.image.specs.inner.Parts.{Inside, Depth, rowBits, cellBits}
 use Rattle.image.specs.Widths.{messageWidth, nodeWidth}
 use Rattle.image.proofs.Bounds.{messages-small}
 use Rattle.image.proofs.PartLaws.{length-row-bits, below-row-bits, length-cell-bits, below-cell-bits}
@@ -23,7 +23,7 @@ use Rattle.tables.specs.Rows.{rows}
 use Rattle.tables.specs.Tables.{width, cellWidth, nodeOf, channelOf}
 use Rattle.tables.proofs.RowsLaws.{node-length, channel-length}
 use Rattle.tables.proofs.RowsMore.{length-rows}
-use Rattle.image_writing.specs.Words.{nodesBits, cellBitsAt, cellsFromBits, cellsBits, Counts}
+use Rattle.image_writing.specs.inner.Words.{nodesBits, cellBitsAt, cellsFromBits, cellsBits, Counts}
 
 -- ---- the nodes
 

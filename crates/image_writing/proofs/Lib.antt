@@ -1,5 +1,4 @@
 -- Laws of the writer: pieces laid end to end, their lengths, and that they are the image.
--- Assumes nothing of its own: each module says what it assumes.
 pub mod HeaderLaws
 pub mod LengthLaws
 pub mod PieceLaws

@@ -1,5 +1,4 @@
 -- Pieces of bits f 1, f 2, .. end to end: a loop that adds their lengths (`Summed`), and a loop that writes them (`Laid`).
--- Assumes nothing.
 use Prim.Native.Nat.{ℕ, zero, suc, _+_, _-_, _*_, _≤_, _<_}
 use native.Mathlib.Nat.{add-zero, le-refl}
 use native.Mathlib.Omega.{arith}
@@ -9,7 +8,7 @@ use lib.ListN.{length, length-append}
 use Rattle.bits.specs.Bits.{written}
 use Rattle.bits.proofs.Bytes.{written-written, written-none, length-written}
 use Rattle.bits.proofs.Numbers.{Below}
-use Rattle.image.specs.Parts.{Inside}
+use Rattle.image.specs.inner.Parts.{Inside}
 use Rattle.image.proofs.RowsMore.{below-rows}
 use Rattle.tables.specs.Rows.{rows}
 use Rattle.tables.proofs.RowsMore.{rows-more}

@@ -3,54 +3,40 @@
 use Prim.Native.Nat.{ℕ, suc, _<_, _≤_}
 use native.Mathlib.Omega.{arith}
 use mathlib.Core.Bool.{cond}
-use mathlib.Core.List.{List, [], _∷_, _++_, map}
-use mathlib.Core.Path.{_≡_, refl, sym, ap, ap₂, _∙_}
+use mathlib.Core.List.{List, [], _++_, map}
+use mathlib.Core.Path.{_≡_, sym, ap, ap₂, _∙_}
 use lib.Dec.{eqb}
-use lib.ListN.{length}
+use lib.ListN.{length, length-map}
 use Rattle.bits.specs.Bits.{bits}
 use Rattle.image.specs.Image.{headerBits, nodeBits, messageBits, channelBits, channelsBits, networkBits, bytesOf, imageOf, image}
-use Rattle.image.specs.Parts.{rowBits, cellBits}
-use Rattle.image.specs.Records.{Records, recordsOf, rowOf}
+use Rattle.image.specs.inner.Parts.{rowBits, cellBits}
 use Rattle.image.proofs.PartLaws.{row-bits, cell-bits}
-use Rattle.image.proofs.TablesRecords.{length-words, cell-words, Eights}
 use Rattle.protocol.specs.Network.{Node, Message}
-use Rattle.basics.proofs.AllOf.{none, more}
 use Rattle.tables.specs.Cell.{count, queue, messageWords}
-use Rattle.tables.specs.Fit.{TablesFit}
+use Rattle.tables.specs.inner.Fit.{TablesFit}
 use Rattle.tables.specs.Load.{load}
-use Rattle.tables.specs.Row.{nodeWords}
+use Rattle.tables.specs.Records.{Records, recordsOf}
 use Rattle.tables.specs.Rows.{rows}
 use Rattle.tables.specs.Tables.{Tables, nodeOf, channelOf}
-use Rattle.tables.proofs.Back.{node-of, cell-of, words-length, message-length}
+use Rattle.tables.proofs.Back.{node-of, cell-of}
 use Rattle.tables.proofs.CellLaws.{messages-length}
+use Rattle.tables.proofs.RecordsLaws.{words-length, message-words}
 use Rattle.tables.proofs.RowsMore.{rows-same}
 use Rattle.tables.proofs.TablesLaws.{tables-back, load-channel}
-use Rattle.image_writing.specs.Words.{nodesBits, cellBitsAt, cellsFromBits, cellsBits, wordsBits}
+use Rattle.image_writing.specs.inner.Words.{nodesBits, cellBitsAt, cellsFromBits, cellsBits, wordsBits}
 
--- ---- a cell's words
-
-pub message-words : (ms : List Message) → Eights (map messageWords ms)
-message-words [] = none
-message-words (m ∷ ms) = more (message-length m) (message-words ms)
+-- ---- node by node and channel by channel
 
 queue-length : (cell : List ℕ) → length (queue cell) ≡ count cell
 unfolding queue
 queue-length cell = messages-length (count cell) cell 1
 
--- ---- node by node and channel by channel
-
 module _ (d n : ℕ) (t : Tables) (fit : TablesFit n t) where
   node-bits : (u : ℕ) → Node n u → rowBits d n (nodeOf n u (t .nodes)) ≡ nodeBits d n (recordsOf n (load n t)) u
   node-bits u a =
       ap (λ (s : Tables). rowBits d n (nodeOf n u (s .nodes))) (sym (tables-back n t fit))
-      ∙ ap (rowBits d n) (node-of n (load n t) u a ∙ same)
-      ∙ row-bits d n (recordsOf n (load n t)) u (λ i l. high (suc i))
-    where
-      same : nodeWords n (load n t .clock u) (load n t .neighbors u) (load n t .forming u) (load n t .height u) ≡ rowOf n (recordsOf n (load n t)) u
-      same = unfold nodeWords rowOf recordsOf in refl
-
-      high : (v : ℕ) → length (recordsOf n (load n t) .height u v) ≡ 7
-      high v = unfold recordsOf in words-length (load n t .height u v)
+      ∙ ap (rowBits d n) (node-of n (load n t) u a)
+      ∙ row-bits d n (recordsOf n (load n t)) u (λ i l. unfold recordsOf in words-length (load n t .height u (suc i)))
 
   few-messages : (u v : ℕ) → Node n u → Node n v → length (load n t .channel u v) ≤ 8
   few-messages u v a b = rw (load-channel n t u a v b, queue-length (channelOf n u v (t .channels))) (fit .cells u v a b .few)
@@ -61,9 +47,9 @@ module _ (d n : ℕ) (t : Tables) (fit : TablesFit n t) where
   unfolding recordsOf
   cell-at u v a b =
       let ms : List Message = load n t .channel u v in
-      let few : length (map messageWords ms) ≤ 8 = rw (length-words ms) (few-messages u v a b) in
+      let few : length (map messageWords ms) ≤ 8 = rw (length-map ms messageWords) (few-messages u v a b) in
       ap (λ (s : Tables). cellBits d (channelOf n u v (s .channels))) (sym (tables-back n t fit))
-      ∙ ap (cellBits d) (cell-of n (load n t) u v a b ∙ sym (cell-words ms))
+      ∙ ap (cellBits d) (cell-of n (load n t) u v a b)
       ∙ cell-bits d (map messageWords ms) few (message-words ms)
 
   channel-bits : (u v : ℕ) → Node n u → Node n v → cellBitsAt d n (t .channels) u v ≡ channelBits d (recordsOf n (load n t)) u v

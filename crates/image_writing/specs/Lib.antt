@@ -1,3 +1,2 @@
 -- Both tables' words as an image's bits.
--- Assumes nothing: these are definitions.
-pub mod Words
+pub mod inner

@@ -1,20 +1,19 @@
 // The channels' records, u ascending, then v ascending: how many bits they take, and the bits.
-// Assumes the bounds that each `requires` states.
 ghost use mathlib.Core.Path.{_≡_};
 ghost use Prim.Native.Nat.{_+_, _*_, _≤_};
 ghost use lib.ListN.{length};
 ghost use Rattle.bits.specs.Bits.{written};
-ghost use Rattle.image.specs.Parts.{Inside, Depth};
+ghost use Rattle.image.specs.inner.Parts.{Inside, Depth};
 ghost use Rattle.protocol.specs.Network.{Node};
 ghost use Rattle.tables.specs.Tables.{cellWidth};
-ghost use Rattle.image_writing.specs.Words.{Counts, cellsFromBits, cellsBits};
+ghost use Rattle.image_writing.specs.inner.Words.{Counts, cellsFromBits, cellsBits};
 
 // How many bits the channels from u take.
 fn cells_from_length(depth: u8, n: u32, u: u32, channels: &[u32]) -> usize
     requires { ⌜ Depth depth × (n ≤ 16) × Node n u × (length (now channels) ≡ n * n * cellWidth) × Counts n (now channels) ⌝ }
     ensures { λ r. ⌜ (r ≡ length (cellsFromBits depth n (now (channels .entry)) u)) × (r ≤ n * 1156) ⌝ }
 {
-    let w = 112 + depth as usize;
+    let w = image::MESSAGE_REST + depth as usize;
     let mut sum: usize = 0;
     let mut v = 1;
     while v <= n {

@@ -5,9 +5,13 @@ ghost use mathlib.Core.Path.{_≡_};
 ghost use Prim.Native.Nat.{_+_, _*_, _/_, _≤_};
 ghost use lib.ListN.{length, drop};
 ghost use Rattle.image.specs.Image.{image};
-ghost use Rattle.tables.specs.Fit.{TablesFit};
+ghost use Rattle.tables.specs.inner.Fit.{TablesFit};
 ghost use Rattle.tables.specs.Load.{load};
 ghost use Rattle.tables.specs.Tables.{given, atEntry};
+use image::DEPTH_WIDTH;
+use image::HEADER_END;
+use image::HEIGHT_WIDTH;
+use image::NODE_HEAD;
 
 mod channels;
 mod nodes;
@@ -18,7 +22,9 @@ pub fn image_length(n: u32, nodes: &[u32], channels: &[u32]) -> usize
     ensures { λ r. ⌜ r ≡ length (image n (load n (atEntry nodes channels))) ⌝ }
 {
     let k = n as usize;
-    let end = 32 + k * (64 + 96 * k) + channels::cells_length(16, n, channels);
+    let end = HEADER_END
+        + k * (NODE_HEAD + HEIGHT_WIDTH * k)
+        + channels::cells_length(DEPTH_WIDTH, n, channels);
     (end + 7) / 8
 }
 
@@ -30,8 +36,8 @@ pub fn write(n: u32, nodes: &[u32], channels: &[u32], out: &mut [u8])
 {
     let k = n as usize;
     nodes::put_header(out, n);
-    nodes::put_nodes(out, 32, 16, n, nodes);
-    let start = 32 + k * (64 + 96 * k);
-    let end = channels::put_cells(out, start, 16, n, channels);
+    nodes::put_nodes(out, HEADER_END, DEPTH_WIDTH, n, nodes);
+    let start = HEADER_END + k * (NODE_HEAD + HEIGHT_WIDTH * k);
+    let end = channels::put_cells(out, start, DEPTH_WIDTH, n, channels);
     nodes::put_pad(out, end);
 }

@@ -1,22 +1,21 @@
 // The header, the nodes' records, and the pad.
-// Assumes the bounds that each `requires` states.
 ghost use mathlib.Core.Path.{_≡_};
 ghost use Prim.Native.Nat.{_+_, _-_, _*_, _%_, _^_, _≤_, _<_};
 ghost use lib.ListN.{length, replicate};
 ghost use Rattle.bits.specs.Bits.{written};
 ghost use Rattle.image.specs.Image.{headerBits};
-ghost use Rattle.image.specs.Parts.{Inside, Depth};
-ghost use Rattle.image.specs.Widths.{nodeWidth};
+ghost use Rattle.image.specs.inner.Parts.{Inside, Depth};
+ghost use Rattle.image.specs.Widths.{headerLength, nodeWidth};
 ghost use Rattle.tables.specs.Tables.{width};
-ghost use Rattle.image_writing.specs.Words.{nodesBits};
+ghost use Rattle.image_writing.specs.inner.Words.{nodesBits};
 
-// Version 1, header length 32, n, spare bits.
+// Version 1, header length, n, spare bits.
 pub fn put_header(buf: &mut [u8], n: u32)
     requires { ⌜ 4 ≤ length (now buf) ⌝ }
-    ensures { λ _. ⌜ now (buf .exit) ≡ written (now (buf .entry)) 0 (headerBits 1 32 n) ⌝ }
+    ensures { λ _. ⌜ now (buf .exit) ≡ written (now (buf .entry)) 0 (headerBits 1 headerLength n) ⌝ }
 {
     bits::put(buf, 0, 4, 1);
-    bits::put(buf, 4, 12, 32);
+    bits::put(buf, 4, 12, image::HEADER_LENGTH);
     bits::put(buf, 16, 5, n);
     bits::put(buf, 21, 11, 0);
 }
@@ -27,7 +26,7 @@ pub fn put_nodes(buf: &mut [u8], at: usize, depth: u8, n: u32, nodes: &[u32])
     ensures { λ _. ⌜ now (buf .exit) ≡ written (now (buf .entry)) at (nodesBits depth n (now (nodes .entry))) ⌝ }
 {
     let k = n as usize;
-    let w = 64 + (80 + depth as usize) * k;
+    let w = image::NODE_HEAD + (image::HEIGHT_REST + depth as usize) * k;
     let mut place = at;
     let mut u = 1;
     while u <= n {

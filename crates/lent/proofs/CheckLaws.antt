@@ -1,5 +1,4 @@
 -- What a check's answer tells: the sizes, and where it is 0 that every pair holds.
--- Assumes nothing.
 use Prim.Native.Nat.{ℕ, zero, suc, _+_, _*_, _≤_, _<_}
 use native.Mathlib.Omega.{arith}
 use mathlib.Core.Bool.{Bool, true, false, cond, _&&_}

@@ -1,5 +1,4 @@
 -- Tables in which every row is a fresh node's and every cell is empty hold the fresh network; the rows are written one by one.
--- Assumes nothing.
 use Prim.Native.Nat.{ℕ, zero, suc, _+_, _-_, _*_, _≤_, _<_}
 use native.Mathlib.Omega.{arith}
 use mathlib.Core.Bool.{true, false, cond}
@@ -20,7 +19,7 @@ use Rattle.basics.specs.Functions.{update}
 use Rattle.protocol.proofs.Restrict.{nodes-is, pairs-is, same-nodes, same-pairs}
 use Rattle.basics.proofs.Tests.{equal?}
 use Rattle.basics.proofs.FunctionsLaws.{update-at, update-off}
-use Rattle.tables.specs.Fit.{RowFits, TablesFit}
+use Rattle.tables.specs.inner.Fit.{RowFits, TablesFit}
 use Rattle.tables.specs.Cell.{emptied, queue}
 use Rattle.tables.specs.Load.{load, tablesOf, clockAt, neighborsAt, formingAt, heightsAt, messagesOn}
 use Rattle.tables.specs.Row.{clockIn, neighborsIn, formingIn, heightIn, putHeight}

@@ -1,5 +1,4 @@
 -- Laws of the check of the lent tables and of the fresh ones.
--- Assumes nothing of its own: each module says what it assumes.
 pub mod Walks
 pub mod CheckLaws
 pub mod SoundTables

@@ -23,7 +23,7 @@ use Rattle.protocol.proofs.Restrict.{pairs-is, nodes-is}
 use Rattle.basics.proofs.FunctionsLaws.{every-all}
 use Rattle.protocol.proofs.NodeLaws.{other-fails}
 use Rattle.tables.specs.Cell.{count, queue, messagesAt, allZero}
-use Rattle.tables.specs.Fit.{TablesFit}
+use Rattle.tables.specs.inner.Fit.{TablesFit}
 use Rattle.tables.specs.Load.{load}
 use Rattle.tables.specs.Row.{clockIn, neighborsIn, formingIn, heightIn}
 use Rattle.tables.specs.Rows.{part}

@@ -3,11 +3,11 @@
 use Prim.Native.Nat.{ℕ, zero, suc, _+_, _-_, _*_, _≤_}
 use native.Mathlib.Omega.{arith}
 use mathlib.Core.Bool.{Bool, true, false, not, cond, _&&_, _||_}
-use mathlib.Core.List.{List, [], _∷_, _++_}
+use mathlib.Core.List.{List, [], _∷_, _++_, map}
 use mathlib.Core.Logic.{_⊎_, inl, inr}
 use mathlib.Core.Path.{_≡_, refl, ap, _∙_}
 use lib.Dec.{eqb, leb}
-use lib.ListN.{length, take, drop, replicate}
+use lib.ListN.{length, take, drop, replicate, length-map}
 use lib.Seq.{drop-append-add}
 use borrow.Author.Tests.{eq-eqb, ne-eqb, leb-true}
 use Rattle.height.specs.Height.{zeroHeight}
@@ -18,14 +18,17 @@ use Rattle.nodeset.proofs.Members.{member-setOf, setOf-lt, lt-within}
 use Rattle.protocol.specs.Network.{Node, Message, Network, upTo, capacity}
 use Rattle.basics.specs.Functions.{every, all}
 use Rattle.protocol.specs.Holds.{heightHolds, messageHolds, notInBoth, setsHold, isEmpty, ownHolds, viewHolds, channelHolds, pairHolds, nodeHolds, sound}
+use Rattle.basics.proofs.AllOf.{more}
 use Rattle.protocol.proofs.Ranges.{zero-height}
 use Rattle.basics.proofs.FunctionsLaws.{every-at, every-all}
-use Rattle.tables.specs.Cell.{count, messageWords, placeWords, cellWords, allZero}
+use Rattle.tables.specs.Cell.{count, messageWords, allZero}
 use Rattle.tables.specs.Load.{tablesOf}
-use Rattle.tables.specs.Row.{neighborsIn, formingIn, heightIn, nodeWords}
+use Rattle.tables.specs.Records.{recordsOf, rowWords, slotWords, cellWords}
+use Rattle.tables.specs.Row.{neighborsIn, formingIn, heightIn}
 use Rattle.tables.specs.Rows.{part, rowAt, rows}
 use Rattle.tables.specs.Tables.{sized}
-use Rattle.tables.proofs.Back.{Storable, node-of, cell-of, node-height, queue-back, words-length, message-length, tables-sized}
+use Rattle.tables.proofs.Back.{Storable, node-of, cell-of, node-height, queue-back, tables-sized}
+use Rattle.tables.proofs.RecordsLaws.{Eights, words-length, message-words}
 use Rattle.tables.proofs.RowsMore.{rows-at}
 use Rattle.pairs.specs.Pair.{ownSound, viewSound, channelSound, pairSound}
 use Rattle.lent.proofs.CheckLaws.{is-sized}
@@ -44,50 +47,49 @@ unfolding allZero
 zeros-append [] ys h k = k
 zeros-append (x ∷ xs) ys h k = and-both (and-left (eqb x 0) (allZero xs) h) (zeros-append xs ys (and-right (eqb x 0) (allZero xs) h) k)
 
-places-zero : (k : ℕ) → allZero (placeWords k []) ≡ true
-unfolding placeWords
-places-zero zero = unfold allZero in refl
-places-zero (suc k) = zeros-append (replicate 8 0) (placeWords k []) (zeros 8) (places-zero k)
+slots-zero : (k : ℕ) → allZero (slotWords k []) ≡ true
+unfolding slotWords
+slots-zero zero = unfold allZero in refl
+slots-zero (suc k) = zeros-append (replicate 8 0) (slotWords k []) (zeros 8) (slots-zero k)
 
 -- the words after the messages
-rest-zero : (k : ℕ) (ms : List Message) → length ms ≤ k → allZero (drop (length ms * 8) (placeWords k ms)) ≡ true
-unfolding placeWords
-rest-zero k [] l = places-zero k
-rest-zero zero (m ∷ ms) l = absurd (omega arith)
-rest-zero (suc k) (m ∷ ms) l =
-    let e : suc (length ms) * 8 ≡ length (messageWords m) + length ms * 8 = omega (arith, message-length m) in
-    rw (e, drop-append-add (messageWords m) (placeWords k ms) (length ms * 8)) (rest-zero k ms (omega arith))
+rest-zero : (k : ℕ) (ms : List (List ℕ)) → Eights ms → length ms ≤ k → allZero (drop (length ms * 8) (slotWords k ms)) ≡ true
+unfolding slotWords
+rest-zero k [] em l = slots-zero k
+rest-zero zero (m ∷ ms) em l = absurd (omega arith)
+rest-zero (suc k) (m ∷ ms) (more a em) l =
+    let e : suc (length ms) * 8 ≡ length m + length ms * 8 = omega (arith, a) in
+    rw (e, drop-append-add m (slotWords k ms) (length ms * 8)) (rest-zero k ms em (omega arith))
 
-unused-zero : (ms : List Message) → length ms ≤ 8 → allZero (drop (1 + count (cellWords ms) * 8) (cellWords ms)) ≡ true
+unused-zero : (ms : List (List ℕ)) → Eights ms → length ms ≤ 8 → allZero (drop (1 + count (cellWords ms) * 8) (cellWords ms)) ≡ true
 unfolding cellWords
-unused-zero ms l =
-    ap allZero (drop-append-add (length ms ∷ []) (placeWords 8 ms) (length ms * 8)) ∙ rest-zero 8 ms l
+unused-zero ms em l =
+    ap allZero (drop-append-add (length ms ∷ []) (slotWords 8 ms) (length ms * 8)) ∙ rest-zero 8 ms em l
 
 -- ---- the places
 
 module _ (n : ℕ) (p : Network) (ok : Storable n p) (u : ℕ) (a : Node n u) where
   row : List ℕ
-  row = nodeWords n (p .clock u) (p .neighbors u) (p .forming u) (p .height u)
+  row = rowWords n (recordsOf n p) u
 
-  neighbors-at : (v : ℕ) → Node n v → member (neighborsIn (nodeWords n (p .clock u) (p .neighbors u) (p .forming u) (p .height u))) v ≡ p .neighbors u v
-  unfolding nodeWords
+  neighbors-at : (v : ℕ) → Node n v → member (neighborsIn (rowWords n (recordsOf n p) u)) v ≡ p .neighbors u v
+  unfolding rowWords recordsOf
   neighbors-at v b = member-setOf n (p .neighbors u) v (b .low) (b .high)
 
-  forming-at : (v : ℕ) → Node n v → member (formingIn (nodeWords n (p .clock u) (p .neighbors u) (p .forming u) (p .height u))) v ≡ p .forming u v
-  unfolding nodeWords
+  forming-at : (v : ℕ) → Node n v → member (formingIn (rowWords n (recordsOf n p) u)) v ≡ p .forming u v
+  unfolding rowWords recordsOf
   forming-at v b = member-setOf n (p .forming u) v (b .low) (b .high)
 
-  height-at : (v : ℕ) → Node n v → heightIn (nodeWords n (p .clock u) (p .neighbors u) (p .forming u) (p .height u)) v ≡ p .height u v
+  height-at : (v : ℕ) → Node n v → heightIn (rowWords n (recordsOf n p) u) v ≡ p .height u v
   height-at zero b = absurd (omega (arith, b .low))
-  height-at (suc k) b =
-      node-height n (p .clock u) (p .neighbors u) (p .forming u) (p .height u) k (omega (arith, b .high)) (ok .heights u (suc k) a b)
+  height-at (suc k) b = node-height n p u k (omega (arith, b .high)) (ok .heights u (suc k) a b)
 
   every-same : (f g : ℕ → Bool) → ((z : ℕ) → Node n z → f z ≡ true → g z ≡ true) → every n f ≡ true → every n g ≡ true
   every-same f g h e = every-all n g (λ v l k. h v (record { low = l; high = k }) (every-at n f e v l k))
 
   sets-back : setsHold n u (p .neighbors u) (p .forming u) ≡ true
-      → setsHold n u (member (neighborsIn (nodeWords n (p .clock u) (p .neighbors u) (p .forming u) (p .height u))))
-      (member (formingIn (nodeWords n (p .clock u) (p .neighbors u) (p .forming u) (p .height u)))) ≡ true
+      → setsHold n u (member (neighborsIn (rowWords n (recordsOf n p) u)))
+      (member (formingIn (rowWords n (recordsOf n p) u))) ≡ true
   unfolding setsHold notInBoth
   sets-back e =
       let x = every n (notInBoth (p .neighbors u) (p .forming u)) in
@@ -98,21 +100,21 @@ module _ (n : ℕ) (p : Network) (ok : Storable n p) (u : ℕ) (a : Node n u) wh
       (rw (neighbors-at u a) (and-right x (not (p .neighbors u u)) e₁)))
       (rw (forming-at u a) (and-right (x && not (p .neighbors u u)) (not (p .forming u u)) e))
 
-  neighbors-within : within n (neighborsIn (nodeWords n (p .clock u) (p .neighbors u) (p .forming u) (p .height u))) ≡ true
-  unfolding nodeWords
+  neighbors-within : within n (neighborsIn (rowWords n (recordsOf n p) u)) ≡ true
+  unfolding rowWords recordsOf
   neighbors-within = lt-within n (setOf n (p .neighbors u)) (setOf-lt n (p .neighbors u))
 
-  forming-within : within n (formingIn (nodeWords n (p .clock u) (p .neighbors u) (p .forming u) (p .height u))) ≡ true
-  unfolding nodeWords
+  forming-within : within n (formingIn (rowWords n (recordsOf n p) u)) ≡ true
+  unfolding rowWords recordsOf
   forming-within = lt-within n (setOf n (p .forming u)) (setOf-lt n (p .forming u))
 
-  empty-zero : (ms : List Message) → isEmpty ms ≡ true → allZero (cellWords ms) ≡ true
-  unfolding cellWords placeWords allZero
+  empty-zero : (ms : List Message) → isEmpty ms ≡ true → allZero (cellWords (map messageWords ms)) ≡ true
+  unfolding cellWords slotWords allZero
   empty-zero [] e = refl
   empty-zero (m ∷ ms) e = clash e refl
 
   own-back : ownHolds n p u ≡ true
-      → ownSound n u (nodeWords n (p .clock u) (p .neighbors u) (p .forming u) (p .height u)) (cellWords (p .channel u u)) ≡ true
+      → ownSound n u (rowWords n (recordsOf n p) u) (cellWords (map messageWords (p .channel u u))) ≡ true
   unfolding ownHolds ownSound
   own-back e =
       let c = leb (p .clock u) 4294967295 in
@@ -128,8 +130,8 @@ module _ (n : ℕ) (p : Network) (ok : Storable n p) (u : ℕ) (a : Node n u) wh
 
   module _ (v : ℕ) (b : Node n v) where
     -- the seven words of the view
-    view-words : part (3 + (v - 1) * 7) 7 (nodeWords n (p .clock u) (p .neighbors u) (p .forming u) (p .height u)) ≡ heightWords (p .height u v)
-    unfolding nodeWords rowAt
+    view-words : part (3 + (v - 1) * 7) 7 (rowWords n (recordsOf n p) u) ≡ heightWords (p .height u v)
+    unfolding rowWords recordsOf rowAt
     view-words =
         let e : suc (v - 1) ≡ v = omega (arith, b .low) in
         let d : drop (3 + (v - 1) * 7) (p .clock u ∷ setOf n (p .neighbors u) ∷ setOf n (p .forming u) ∷ rows n (λ z. heightWords (p .height u z)))
@@ -143,33 +145,33 @@ module _ (n : ℕ) (p : Network) (ok : Storable n p) (u : ℕ) (a : Node n u) wh
     unfolding allZero heightWords deltaWord
     zero-words e = rw e
 
-    view-back : viewHolds n p u v ≡ true → viewSound n v (nodeWords n (p .clock u) (p .neighbors u) (p .forming u) (p .height u)) ≡ true
+    view-back : viewHolds n p u v ≡ true → viewSound n v (rowWords n (recordsOf n p) u) ≡ true
     unfolding viewHolds viewSound
     view-back e = go (choice (p .neighbors u v))
       where
         N : Bool
-        N = member (neighborsIn (nodeWords n (p .clock u) (p .neighbors u) (p .forming u) (p .height u))) v
+        N = member (neighborsIn (rowWords n (recordsOf n p) u)) v
 
         go : Choice (p .neighbors u v)
-            → cond (member (neighborsIn (nodeWords n (p .clock u) (p .neighbors u) (p .forming u) (p .height u))) v)
-            (heightHolds n v (heightIn (nodeWords n (p .clock u) (p .neighbors u) (p .forming u) (p .height u)) v))
-            (allZero (part (3 + (v - 1) * 7) 7 (nodeWords n (p .clock u) (p .neighbors u) (p .forming u) (p .height u)))) ≡ true
+            → cond (member (neighborsIn (rowWords n (recordsOf n p) u)) v)
+            (heightHolds n v (heightIn (rowWords n (recordsOf n p) u) v))
+            (allZero (part (3 + (v - 1) * 7) 7 (rowWords n (recordsOf n p) u))) ≡ true
         go (yes! i) = rw (neighbors-at v b, i, height-at v b) (rw i at e)
         go (no! i) = rw (neighbors-at v b, i, view-words) (zero-words (zero-height (p .height u v) (rw i at e)))
 
     up-back : (upTo p u v || isEmpty (p .channel u v)) ≡ true
-        → (member (neighborsIn (nodeWords n (p .clock u) (p .neighbors u) (p .forming u) (p .height u))) v
-        || member (formingIn (nodeWords n (p .clock u) (p .neighbors u) (p .forming u) (p .height u))) v || eqb (count (cellWords (p .channel u v))) 0) ≡ true
+        → (member (neighborsIn (rowWords n (recordsOf n p) u)) v
+        || member (formingIn (rowWords n (recordsOf n p) u)) v || eqb (count (cellWords (map messageWords (p .channel u v)))) 0) ≡ true
     unfolding cellWords
     up-back e = rw (neighbors-at v b, forming-at v b) (go (upTo p u v) (p .channel u v) e)
       where
-        go : (x : Bool) (ms : List Message) → (x || isEmpty ms) ≡ true → (x || eqb (length ms) 0) ≡ true
+        go : (x : Bool) (ms : List Message) → (x || isEmpty ms) ≡ true → (x || eqb (length (map messageWords ms)) 0) ≡ true
         go true ms e = refl
         go false [] e = refl
         go false (m ∷ ms) e = clash e refl
 
     channel-back : channelHolds n p u v ≡ true
-        → channelSound n u v (nodeWords n (p .clock u) (p .neighbors u) (p .forming u) (p .height u)) (cellWords (p .channel u v)) ≡ true
+        → channelSound n u v (rowWords n (recordsOf n p) u) (cellWords (map messageWords (p .channel u v))) ≡ true
     unfolding channelHolds channelSound
     channel-back e =
         let c = leb (length (p .channel u v)) capacity in
@@ -179,10 +181,10 @@ module _ (n : ℕ) (p : Network) (ok : Storable n p) (u : ℕ) (a : Node n u) wh
         and-both
         (and-both (and-both (few (and-left c m e₁)) (up-back (and-right (c && m) (upTo p u v || isEmpty (p .channel u v)) e)))
         (rw (queue-back (p .channel u v) (ok .messages u v a b) short) (and-right c m e₁)))
-        (unused-zero (p .channel u v) short)
+        (unused-zero (map messageWords (p .channel u v)) (message-words (p .channel u v)) (rw (length-map (p .channel u v) messageWords) short))
       where
-        few : leb (length (p .channel u v)) capacity ≡ true → leb (count (cellWords (p .channel u v))) capacity ≡ true
-        few q = unfold cellWords in q
+        few : leb (length (p .channel u v)) capacity ≡ true → leb (count (cellWords (map messageWords (p .channel u v)))) capacity ≡ true
+        few q = unfold cellWords in rw (length-map (p .channel u v) messageWords) q
 
 -- ---- the check
 
@@ -210,10 +212,10 @@ module _ (n : ℕ) (p : Network) (ok : Storable n p) (holds : sound n p ≡ true
   place-back u v a b = rw (node-of n p u a, cell-of n p u v a b) (go (equal? u v) (at u v a b))
     where
       row : List ℕ
-      row = nodeWords n (p .clock u) (p .neighbors u) (p .forming u) (p .height u)
+      row = rowWords n (recordsOf n p) u
 
       go : (u ≡ v) ⊎ (u ≡ v → ⊥) → cond (eqb u v) (ownHolds n p u) (viewHolds n p u v && channelHolds n p u v) ≡ true
-          → cond (eqb u v) (ownSound n u row (cellWords (p .channel u v))) (viewSound n v row && channelSound n u v row (cellWords (p .channel u v))) ≡ true
+          → cond (eqb u v) (ownSound n u row (cellWords (map messageWords (p .channel u v)))) (viewSound n v row && channelSound n u v row (cellWords (map messageWords (p .channel u v)))) ≡ true
       go (inl e) h = rw (eq-eqb u v e, ← e) (own-back n p ok u a (rw (eq-eqb u v e) at h))
       go (inr d) h =
           let q : (viewHolds n p u v && channelHolds n p u v) ≡ true = rw (ne-eqb u v d) at h in

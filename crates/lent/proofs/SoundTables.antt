@@ -12,7 +12,7 @@ use borrow.Author.Tests.{eq-eqb, ne-eqb}
 use Rattle.nodeset.proofs.Members.{within-true}
 use Rattle.protocol.specs.Network.{Node}
 use Rattle.basics.proofs.Tests.{equal?, and-left, and-right}
-use Rattle.tables.specs.Fit.{CellFits, RowFits, TablesFit}
+use Rattle.tables.specs.inner.Fit.{CellFits, RowFits, TablesFit}
 use Rattle.tables.specs.Cell.{count, allZero}
 use Rattle.tables.specs.Row.{neighborsIn, formingIn}
 use Rattle.tables.specs.Rows.{rowAt}

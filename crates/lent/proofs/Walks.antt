@@ -1,5 +1,4 @@
 -- The walk over the pairs u, v that finds the first fault: what holds at the head of each of its two loops.
--- Assumes nothing.
 use Prim.Native.Nat.{ℕ, suc, _+_, _-_, _≤_, _<_}
 use native.Mathlib.Numerals.{add-one}
 use native.Mathlib.Omega.{arith}

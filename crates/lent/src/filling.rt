@@ -23,7 +23,7 @@ pub fn fill(n: u32, nodes: &mut [u32], channels: &mut [u32])
 {
     tables::cells::fill_zero(nodes);
     tables::cells::fill_zero(channels);
-    let w = 3 + 7 * (n as usize);
+    let w = tables::ROW_HEAD + tables::HEIGHT_SIZE * (n as usize);
     let mut u = 1;
     while u <= n {
         let h = fresh_height(u);

@@ -22,7 +22,9 @@ pub fn is_sized(n: u32, nodes: &[u32], channels: &[u32]) -> bool
 {
     if n <= 16 {
         let k = n as usize;
-        return (1 <= n) & (nodes.len() == k * (3 + 7 * k)) & (channels.len() == k * k * 65);
+        return (1 <= n)
+            & (nodes.len() == k * (tables::ROW_HEAD + tables::HEIGHT_SIZE * k))
+            & (channels.len() == k * k * tables::CELL_WIDTH);
     }
     false
 }

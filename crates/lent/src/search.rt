@@ -1,5 +1,4 @@
 // The soundness check: every pair of the tables, and the first that is at fault.
-// Assumes the bounds that each `requires` states.
 ghost use mathlib.Core.Path.{_≡_};
 ghost use Rattle.protocol.specs.Network.{Node};
 ghost use Rattle.tables.specs.Tables.{given, atEntry, Sized};

@@ -1,5 +1,4 @@
 -- What `member` reads is what `setOf` made, and a set of nodes 1 to n is told by its members. All goes by the lowest bit and the half.
--- Assumes nothing.
 use Prim.Native.Nat.{ℕ, zero, suc, _+_, _-_, _*_, _/_, _%_, _^_, _≤_, _<_, min, max}
 use native.Mathlib.Omega.{arith}
 use native.Mathlib.Numerals.{one-add}

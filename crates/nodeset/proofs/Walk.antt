@@ -1,5 +1,4 @@
 -- For a loop that takes the lowest node of a set and removes it: which node is the lowest, and that the set gets smaller each time.
--- Assumes nothing.
 use Prim.Native.Nat.{ℕ, zero, suc, _+_, _/_, _%_, _^_, _≤_, _<_}
 use native.Mathlib.Omega.{arith}
 use mathlib.Core.Bool.{Bool, true, false, cond, and-true, and-false}

@@ -1,4 +1,3 @@
 -- Laws of the test of one place.
--- Assumes nothing of its own: each module says what it assumes.
 pub mod PairLaws
 pub mod HeldPairs

@@ -9,9 +9,10 @@ use Rattle.nodeset.specs.NodeSet.{member, within}
 use Rattle.basics.specs.Functions.{all}
 use Rattle.protocol.specs.Holds.{heightHolds, messageHolds, setsHold}
 use Rattle.protocol.specs.Network.{capacity}
-use Rattle.tables.specs.Cell.{count, queue, allZero}
+use Rattle.tables.specs.Cell.{count, slot, queue, allZero}
 use Rattle.tables.specs.Row.{neighborsIn, formingIn, heightIn}
 use Rattle.tables.specs.Rows.{part}
+use Rattle.tables.specs.Tables.{rowHead, heightSize}
 
 -- the sets hold nodes 1 to n only, are disjoint and never hold u; the own height is one of u's; the cell u u is unused
 unfoldable pub ownSound : ℕ → ℕ → List ℕ → List ℕ → Bool
@@ -21,13 +22,13 @@ ownSound n u row cell =
 
 -- the view of v: a height of v's where v is in N, else seven zero words
 unfoldable pub viewSound : ℕ → ℕ → List ℕ → Bool
-viewSound n v row = cond (member (neighborsIn row) v) (heightHolds n v (heightIn row v)) (allZero (part (3 + (v - 1) * 7) 7 row))
+viewSound n v row = cond (member (neighborsIn row) v) (heightHolds n v (heightIn row v)) (allZero (part (rowHead + (v - 1) * heightSize) heightSize row))
 
 -- at most 8 messages, none where the channel is down, each with a height of u's, and zero words after them
 unfoldable pub channelSound : ℕ → ℕ → ℕ → List ℕ → List ℕ → Bool
 channelSound n u v row cell =
     leb (count cell) capacity && (member (neighborsIn row) v || member (formingIn row) v || eqb (count cell) 0)
-    && all (messageHolds n u) (queue cell) && allZero (drop (1 + count cell * 8) cell)
+    && all (messageHolds n u) (queue cell) && allZero (drop (slot (count cell)) cell)
 
 unfoldable pub pairSound : ℕ → ℕ → ℕ → List ℕ → List ℕ → Bool
 pairSound n u v row cell = cond (eqb u v) (ownSound n u row cell) (viewSound n v row && channelSound n u v row cell)

@@ -4,10 +4,10 @@ ghost use mathlib.Core.Path.{_≡_};
 ghost use Prim.Native.Nat.{_≤_};
 ghost use lib.ListN.{length};
 ghost use Rattle.nodeset.specs.NodeSet.{member};
-ghost use Rattle.protocol.specs.Network.{Node};
+ghost use Rattle.protocol.specs.Network.{Node, capacity};
 ghost use Rattle.basics.specs.Functions.{all};
 ghost use Rattle.protocol.specs.Holds.{messageHolds};
-ghost use Rattle.tables.specs.Cell.{messagesAt};
+ghost use Rattle.tables.specs.Cell.{slot, messagesAt};
 ghost use Rattle.tables.specs.Tables.{width, cellWidth};
 ghost use Rattle.pairs.specs.Pair.{ownSound, viewSound, channelSound, pairSound};
 
@@ -38,15 +38,15 @@ pub fn view_sound(n: u32, v: u32, row: &[u32]) -> bool
     if is_member(row[1], v) {
         return holds::height_holds(n, v, tables::rows::height_in(n, row, v));
     }
-    let a = 3 + ((v - 1) as usize) * 7;
-    let e = a + 7;
+    let a = tables::ROW_HEAD + ((v - 1) as usize) * tables::HEIGHT_SIZE;
+    let e = a + tables::HEIGHT_SIZE;
     tables::cells::all_zero(&row[a..e])
 }
 
 // The first `count` messages of a cell, of node u's.
 fn messages_hold(n: u32, u: u32, cell: &[u32], count: usize) -> bool
-    requires { ⌜ (count ≤ 8) × (length (now cell) ≡ cellWidth) ⌝ }
-    ensures { λ r. ⌜ r ≡ all (messageHolds n u) (messagesAt count (now (cell .entry)) 1) ⌝ }
+    requires { ⌜ (count ≤ capacity) × (length (now cell) ≡ cellWidth) ⌝ }
+    ensures { λ r. ⌜ r ≡ all (messageHolds n u) (messagesAt count (now (cell .entry)) (slot 0)) ⌝ }
 {
     let mut k = 0;
     while k < count {
@@ -65,10 +65,10 @@ pub fn channel_sound(n: u32, u: u32, v: u32, row: &[u32], cell: &[u32]) -> bool
     ensures { λ r. ⌜ r ≡ channelSound n u v (now (row .entry)) (now (cell .entry)) ⌝ }
 {
     let waiting = tables::cells::waiting(cell);
-    if 8 < waiting {
+    let count = waiting as usize;
+    if tables::CAPACITY < count {
         return false;
     }
-    let count = waiting as usize;
     let fits = is_member(row[1], v) | is_member(row[2], v) | (waiting == 0);
     let held = messages_hold(n, u, cell, count);
     fits & held & tables::cells::is_unused_after(cell, count)

@@ -1,5 +1,4 @@
 -- Channels: an empty one, one after a message is posted, and what an event leaves of one before it sends.
--- Assumes nothing.
 use Prim.Native.Nat.{ℕ, _+_, _≤_}
 use native.Mathlib.Omega.{arith}
 use mathlib.Core.Bool.{Bool, true, false}

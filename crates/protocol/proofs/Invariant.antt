@@ -1,5 +1,4 @@
 -- The invariant `Inv`, which holds of every network grown from the fresh one (Good.antt), and what an event has to show to keep it.
--- Assumes nothing.
 use Prim.Native.Nat.{ℕ, _≤_}
 use native.Mathlib.Omega.{arith}
 use mathlib.Core.Bool.{Bool, true, false}

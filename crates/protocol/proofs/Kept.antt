@@ -1,5 +1,4 @@
 -- An event at a node with another: what its rule has to show so that the invariant is kept.
--- Assumes nothing.
 use Prim.Native.Nat.{ℕ, suc, _≤_}
 use native.Mathlib.Omega.{arith}
 use mathlib.Core.Bool.{Bool, true, false}

@@ -1,5 +1,5 @@
 -- Locality: an event's answer and what it leaves at its node u depend only on u's record, the channels from u and the channel
--- received from; and it changes nothing else. Assumes nothing.
+-- received from; and it changes nothing else.
 use Prim.Native.Nat.{ℕ}
 use mathlib.Core.Bool.{true, false, cond}
 use mathlib.Core.List.{List, [], _∷_, tail}

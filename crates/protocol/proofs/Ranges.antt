@@ -1,5 +1,4 @@
 -- The ranges of a height as facts: exactly what passes the tests of Holds.antt.
--- Assumes nothing.
 use Prim.Native.Nat.{ℕ, zero, suc, _≤_}
 use native.Mathlib.Omega.{arith}
 use mathlib.Core.Bool.{Bool, true, false, not, _&&_, _||_}

@@ -1,5 +1,4 @@
 -- Bounds on times and leader pairs, the sink test, and the largest level of the views: what the rules rest on.
--- Assumes nothing.
 use Prim.Native.Nat.{ℕ, zero, suc, _<_, _≤_}
 use native.Mathlib.Omega.{arith}
 use mathlib.Core.Bool.{Bool, true, false, cond, and-false}

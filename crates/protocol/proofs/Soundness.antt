@@ -1,5 +1,5 @@
 -- A sound network, by facts (`Fits`): within the ranges, sets apart, empty where a channel is down, as fresh outside 1 to n.
--- What an event has to show to keep it so (`commit-fits`); the fresh network is so. Assumes nothing.
+-- What an event has to show to keep it so (`commit-fits`); the fresh network is so.
 use Prim.Native.Nat.{ℕ, _<_, _≤_}
 use native.Mathlib.Omega.{arith}
 use mathlib.Core.Bool.{Bool, true, false, _||_}

@@ -1,5 +1,4 @@
 -- Each accepted event keeps the invariant (`step-keeps`), and the fresh network has it (`fresh-inv`).
--- Assumes nothing.
 use Prim.Native.Nat.{ℕ, suc, max, _≤_}
 use native.Mathlib.Omega.{arith}
 use mathlib.Core.Bool.{Bool, true, false}

@@ -1,5 +1,4 @@
 -- The moved clock T: document 01, "The clock". Every accepted event at a node first moves its clock.
--- Assumes nothing: these are definitions.
 use Prim.Native.Nat.{ℕ, suc, max}
 use mathlib.Core.Bool.{Bool, cond}
 

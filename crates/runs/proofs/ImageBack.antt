@@ -23,7 +23,7 @@ use Rattle.image_snapshot.proofs.RefusedLaws.{restore-kept}
 use Rattle.image_snapshot.proofs.RestoreSaved.{restore-image}
 use Rattle.tables.specs.Load.{tablesOf}
 use Rattle.tables.proofs.Back.{storable, load-back, tables-sized}
-use Rattle.runs.specs.ByMeaning.{saveMeant, restoreMeant}
+use Rattle.runs.specs.inner.ByMeaning.{saveMeant, restoreMeant}
 use Rattle.runs.specs.OnTables.{putOut, writing}
 
 -- b is the image of the network p of n nodes

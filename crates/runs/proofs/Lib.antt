@@ -1,5 +1,4 @@
 -- Demand 3 and what it rests on.
--- Assumes nothing of its own: each module says what it assumes.
 pub mod Lists
 pub mod ImageBack
 pub mod Simulation

@@ -1,5 +1,5 @@
 -- A list of calls with an accepted restore of an older save behind a younger one, on the tables of two nodes: allowed, computed call by call
--- from the contracts' definitions, and quiet at its end. So the hypotheses of demand 3, (b) and (c) among them, have inhabitants. Assumes nothing.
+-- from the contracts' definitions, and quiet at its end. So the hypotheses of demand 3, (b) and (c) among them, have inhabitants.
 use Prim.Native.Nat.{ℕ}
 use native.Mathlib.Omega.{arith}
 use mathlib.Core.Bool.{true}
@@ -16,7 +16,6 @@ use Rattle.height.specs.Words.{deltaOf, deltaWord, heightWords, heightAt}
 use Rattle.image.specs.Image.{headerBits, nodeBits, messageBits, channelBits, channelsBits, networkBits, padded, bytesOf, imageOf, image}
 use Rattle.image.specs.Places.{fieldIn, nodePlace, heightFrom, messagesOf, channelFrom, walked, channelNext}
 use Rattle.image.specs.Places.{channelsNext, channelsPlace, channelsFromPlace, channelPlace, imageEnd, recordsIn, tablesIn}
-use Rattle.image.specs.Records.{recordsOf, rowOf, placesOf, cellOf, messagesFrom, tablesFrom}
 use Rattle.image.specs.Widths.{recordBits, extendedOf, recordOf, heightWidth, messageWidth, nodeWidth}
 use Rattle.lent.specs.Check.{pairAt, faultInRow, faultFrom, firstFault, checkOn}
 use Rattle.nodeset.specs.NodeSet.{member, setOf, within}
@@ -38,9 +37,10 @@ use Rattle.image_reading.specs.Header.{headerHolds, headerOf}
 use Rattle.image_reading.specs.Walk.{channelStep, onward, steps, channelsFromWalk, channelsWalk, walk, endsAt}
 use Rattle.image_snapshot.specs.Restore.{restoreExamined, restoreOf, restoreHeaded, restoreOn}
 use Rattle.image_snapshot.specs.Save.{saveChecked, saveOn}
-use Rattle.tables.specs.Cell.{messageAt, messagesAt, queue, allZero, messageWords, placeWords, cellWords}
+use Rattle.tables.specs.Cell.{messageAt, messagesAt, queue, allZero, messageWords}
 use Rattle.tables.specs.Load.{load, tablesOf}
-use Rattle.tables.specs.Row.{heightIn, nodeWords}
+use Rattle.tables.specs.Records.{recordsOf, rowWords, slotWords, cellWords, tablesFrom}
+use Rattle.tables.specs.Row.{heightIn}
 use Rattle.tables.specs.Rows.{rowAt, rows}
 use Rattle.tables.specs.Tables.{Tables, sized}
 use Rattle.runs.specs.OnTables.{Reply, toEvent, toSave, toRestore, putOut, onTables, freshTables, after, Allowed}
@@ -165,13 +165,13 @@ pub computed : Computed
 unfolding bits number unpacked packed field spread gathered stepAt stepChecked stepOn levelKey pairKey heightKey before same deltaOf
     deltaWord heightWords heightAt headerBits nodeBits messageBits channelBits channelsBits networkBits padded bytesOf imageOf image fieldIn
     heightFrom messagesOf channelFrom walked channelNext channelsNext channelsPlace channelsFromPlace channelPlace imageEnd recordsIn
-    tablesIn recordsOf rowOf placesOf cellOf messagesFrom tablesFrom recordBits extendedOf recordOf heightWidth messageWidth nodeWidth pairAt
+    tablesIn recordsOf rowWords slotWords cellWords tablesFrom recordBits extendedOf recordOf heightWidth messageWidth nodeWidth pairAt
     faultInRow faultFrom firstFault checkOn member setOf within ownSound viewSound channelPlaceHolds pairSound every all update levelHolds
     deltaHolds leaderPairHolds heightHolds messageHolds notInBoth setsHold misnamed late hasRoom crowded returned accepts answer next absent
     downRule larger largest deltas ofLevel oneLevelRule equalPairsRule receiptRule above sink carried localUp localDown localIgnored
     localTaken post commit step afterWalk examined headerHolds headerOf channelStep onward steps channelsFromWalk channelsWalk walk endsAt
-    restoreExamined restoreOf restoreHeaded restoreOn put saveChecked saveOn messageAt messagesAt queue allZero messageWords placeWords
-    cellWords load tablesOf heightIn nodeWords rowAt rows sized reply tablesAfter tablesAfterAll replies nodePlace pairQuiet nodeQuiet quiet
+    restoreExamined restoreOf restoreHeaded restoreOn put saveChecked saveOn messageAt messagesAt queue allZero messageWords
+    load tablesOf heightIn rowAt rows sized reply tablesAfter tablesAfterAll replies nodePlace pairQuiet nodeQuiet quiet
 computed = record {
   answered = refl;
   saves-are = refl;

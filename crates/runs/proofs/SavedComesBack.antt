@@ -14,7 +14,7 @@ use Rattle.image_snapshot.specs.Restore.{restoreOn}
 use Rattle.image_snapshot.specs.Save.{saveOn}
 use Rattle.tables.specs.Load.{tablesOf}
 use Rattle.tables.specs.Tables.{Tables}
-use Rattle.runs.specs.ByMeaning.{byMeaning}
+use Rattle.runs.specs.inner.ByMeaning.{byMeaning}
 use Rattle.runs.specs.OnTables.{putOut, onTables, freshTables, then, after, Allowed}
 use Rattle.runs.proofs.Demand3.{tablesAt, put-back}
 use Rattle.runs.proofs.ImageBack.{SaneRun}

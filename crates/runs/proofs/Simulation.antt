@@ -31,7 +31,7 @@ use Rattle.image_snapshot.proofs.RefusedLaws.{restore-kept}
 use Rattle.tables.specs.Load.{load, tablesOf}
 use Rattle.tables.specs.Tables.{Tables}
 use Rattle.tables.proofs.Back.{storable, load-back}
-use Rattle.runs.specs.ByMeaning.{saveMeant, restoreMeant, byMeaning}
+use Rattle.runs.specs.inner.ByMeaning.{saveMeant, restoreMeant, byMeaning}
 use Rattle.runs.specs.OnTables.{stepping, writing, onTables, then, after, Allowed}
 use Rattle.runs.proofs.ImageBack.{ImageOf, writes, reads, kept, restore-of, SaneRun}
 use Rattle.runs.proofs.Lists.{fair-head, fair-tail}

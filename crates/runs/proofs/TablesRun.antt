@@ -8,7 +8,7 @@ use Rattle.protocol.specs.Network.{Network, fresh}
 use Rattle.calls.specs.Run.{Call, event, save, restore, RunState, startOfRun, act, perform, AllFair}
 use Rattle.tables.specs.Load.{load, tablesOf}
 use Rattle.tables.specs.Tables.{Tables}
-use Rattle.runs.specs.ByMeaning.{byMeaning, replyTo, repliesTo}
+use Rattle.runs.specs.inner.ByMeaning.{byMeaning, replyTo, repliesTo}
 use Rattle.runs.specs.OnTables.{Reply, toEvent, toSave, reply, tablesAfter, tablesAfterAll, replies, onTables, freshTables, then, after, Allowed}
 use Rattle.runs.proofs.ImageBack.{SaneRun}
 use Rattle.runs.proofs.Lists.{perform-append, fair-head}

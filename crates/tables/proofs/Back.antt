@@ -1,18 +1,17 @@
 -- A network whose numbers fit in words is what its tables load to: `load n (tablesOf n p) ≡ p`.
 -- Assumes that p holds nothing beyond node n and that its heights and channels fit (`Storable`); every good network does.
-use Prim.Native.Nat.{ℕ, zero, suc, _+_, _-_, _*_, _<_, _≤_}
+use Prim.Native.Nat.{ℕ, zero, suc, _+_, _*_, _<_, _≤_}
 use native.Mathlib.Nat.{zero-add}
 use native.Mathlib.Omega.{arith}
 use mathlib.Core.Bool.{Bool, false, cond}
-use mathlib.Core.List.{List, [], _∷_, _++_}
+use mathlib.Core.List.{List, [], _∷_, _++_, map}
 use mathlib.Core.Logic.{_⊎_, inl, inr}
 use mathlib.Core.Path.{_≡_, refl, sym, ap, _∙_, fun-ext}
 use lib.Dec.{eqb, leb}
-use lib.ListN.{getD, length, take, drop, replicate, length-append}
+use lib.ListN.{getD, length, take, drop, length-map}
 use lib.Seq.{getD-take, getD-drop, getD-append-add}
 use borrow.Author.Tests.{ne-eqb, leb-false, le-leb}
 use Rattle.height.specs.Words.{heightAt, heightWords}
-use Rattle.height.specs.declared.Height.{Height}
 use Rattle.basics.proofs.Tests.{clash, Choice, yes!, no!, choice, equal?}
 use Rattle.height.proofs.WordsLaws.{same-words, words-height}
 use Rattle.nodeset.specs.NodeSet.{member, setOf}
@@ -22,15 +21,16 @@ use Rattle.basics.proofs.AllOf.{AllOf, none, more, all-weaker}
 use Rattle.protocol.proofs.Restrict.{restrict-is, same-nodes, same-pairs}
 use Rattle.protocol.proofs.Soundness.{Fits, MessageFits}
 use Rattle.protocol.proofs.NodeLaws.{is-node}
-use Rattle.tables.specs.Cell.{messageAt, messagesAt, queue, messageWords, placeWords, cellWords}
+use Rattle.tables.specs.Cell.{messageAt, messagesAt, queue, messageWords}
 use Rattle.tables.specs.Load.{load, tablesOf, clockAt, neighborsAt, formingAt, heightsAt, messagesOn}
-use Rattle.tables.specs.Row.{clockIn, neighborsIn, formingIn, heightIn, nodeWords}
+use Rattle.tables.specs.Records.{recordsOf, rowWords, slotWords, cellWords}
+use Rattle.tables.specs.Row.{clockIn, neighborsIn, formingIn, heightIn}
 use Rattle.tables.specs.Rows.{rowAt, rows}
-use Rattle.tables.specs.Tables.{Sized, width, cellWidth, nodeOf, channelOf}
+use Rattle.tables.specs.Tables.{Sized, width, nodeOf, channelOf}
 use Rattle.tables.proofs.CellLaws.{messages-moved}
 use Rattle.tables.proofs.RowLaws.{height-past}
-use Rattle.tables.proofs.RowsMore.{length-rows, rows-at}
-use Rattle.tables.proofs.WordRuns.{row-in}
+use Rattle.tables.proofs.RecordsLaws.{words-length, message-length, network-shaped, length-row, made-sized, node-from, channel-from}
+use Rattle.tables.proofs.RowsMore.{rows-at}
 use Rattle.tables.proofs.Wordy.{Wordy, fits-wordy, zero-wordy}
 
 -- its height's words give the height back
@@ -45,14 +45,6 @@ pub record Storable (n : ℕ) (p : Network) : Type 0 where
 
 -- ---- a node's words
 
-pub words-length : (h : Height) → length (heightWords h) ≡ 7
-unfolding heightWords
-words-length h = refl
-
-pub node-length : (n c : ℕ) (N F : ℕ → Bool) (H : ℕ → Height) → length (nodeWords n c N F H) ≡ width n
-unfolding nodeWords
-node-length n c N F H = let e = length-rows n 7 (λ v. heightWords (H v)) (λ i _. words-length (H (suc i))) in omega arith
-
 -- a height read in a row of words
 height-row : (ws : List ℕ) (i : ℕ) → heightAt ws (i * 7) ≡ heightAt (rowAt 7 i ws) 0
 unfolding rowAt
@@ -66,29 +58,16 @@ past-three a b c ws i =
     same-words (a ∷ b ∷ c ∷ ws) ws (3 + i) i
     (λ k l. let e : 3 + i + k ≡ 3 + (i + k) = omega arith in rw e (getD-append-add (a ∷ b ∷ c ∷ []) ws (i + k) 0))
 
-pub node-height : (n c : ℕ) (N F : ℕ → Bool) (H : ℕ → Height) (k : ℕ) → k < n → Wordy (H (suc k)) → heightIn (nodeWords n c N F H) (suc k) ≡ H (suc k)
-unfolding nodeWords heightIn
-node-height n c N F H k l w =
-    past-three c (setOf n N) (setOf n F) (rows n (λ v. heightWords (H v))) (k * 7)
-    ∙ height-row (rows n (λ v. heightWords (H v))) k
-    ∙ ap (λ (xs : List ℕ). heightAt xs 0) (rows-at 7 n (λ v. heightWords (H v)) (λ i _. words-length (H (suc i))) k l)
-    ∙ words-height (H (suc k)) (w .delta) (w .nlts)
+pub node-height : (n : ℕ) (p : Network) (u k : ℕ) → k < n → Wordy (p .height u (suc k)) → heightIn (rowWords n (recordsOf n p) u) (suc k) ≡ p .height u (suc k)
+unfolding rowWords recordsOf heightIn
+node-height n p u k l w =
+    let f : ℕ → List ℕ = λ v. heightWords (p .height u v) in
+    past-three (p .clock u) (setOf n (p .neighbors u)) (setOf n (p .forming u)) (rows n f) (k * 7)
+    ∙ height-row (rows n f) k
+    ∙ ap (λ (xs : List ℕ). heightAt xs 0) (rows-at 7 n f (λ i _. words-length (p .height u (suc i))) k l)
+    ∙ words-height (p .height u (suc k)) (w .delta) (w .nlts)
 
 -- ---- a channel's words
-
-pub message-length : (m : Message) → length (messageWords m) ≡ 8
-unfolding messageWords heightWords
-message-length m = refl
-
-places-length : (k : ℕ) (ms : List Message) → length (placeWords k ms) ≡ k * 8
-unfolding placeWords
-places-length zero ms = omega arith
-places-length (suc k) [] = length-append (replicate 8 0) (placeWords k []) ∙ omega (arith, places-length k [])
-places-length (suc k) (m ∷ ms) = length-append (messageWords m) (placeWords k ms) ∙ omega (arith, message-length m, places-length k ms)
-
-pub cell-length : (ms : List Message) → length (cellWords ms) ≡ cellWidth
-unfolding cellWords
-cell-length ms = let e = places-length 8 ms in omega arith
 
 message-back : (m : Message) (rest : List ℕ) → Wordy (m .height) → messageAt (messageWords m ++ rest) 0 ≡ m
 unfolding messageAt messageWords heightWords
@@ -97,24 +76,27 @@ message-back m rest w =
     unfold heightAt heightWords in words-height (m .height) (w .delta) (w .nlts) in
     rw e
 
-places-back : (k : ℕ) (ms : List Message) → AllOf WordyMessage ms → length ms ≤ k → messagesAt (length ms) (placeWords k ms) 0 ≡ ms
-unfolding messagesAt placeWords
-places-back k ms none l = refl
-places-back zero ms (more w ws) l = absurd (omega arith)
-places-back (suc k) ms (more {x = m} {xs = rest} w ws) l =
-    let ih = places-back k rest ws (omega arith) in
-    let shifted : messagesAt (length rest) (messageWords m ++ placeWords k rest) (0 + 8) ≡ messagesAt (length rest) (placeWords k rest) 0 =
-    messages-moved (length rest) (messageWords m ++ placeWords k rest) (placeWords k rest) (0 + 8) 0
+slots-back : (k : ℕ) (ms : List Message) → AllOf WordyMessage ms → length ms ≤ k → messagesAt (length ms) (slotWords k (map messageWords ms)) 0 ≡ ms
+unfolding messagesAt slotWords
+slots-back k ms none l = refl
+slots-back zero ms (more w ws) l = absurd (omega arith)
+slots-back (suc k) ms (more {x = m} {xs = rest} w ws) l =
+    let xs : List ℕ = slotWords k (map messageWords rest) in
+    let ih = slots-back k rest ws (omega arith) in
+    let shifted : messagesAt (length rest) (messageWords m ++ xs) (0 + 8) ≡ messagesAt (length rest) xs 0 =
+    messages-moved (length rest) (messageWords m ++ xs) xs (0 + 8) 0
     (λ j q. let e : 0 + 8 + j ≡ length (messageWords m) + j = omega (arith, message-length m) in
-    let f : 0 + j ≡ j = omega arith in rw (e, f) (getD-append-add (messageWords m) (placeWords k rest) j 0)) in
-    rw (message-back m (placeWords k rest) w, shifted, ih)
+    let f : 0 + j ≡ j = omega arith in rw (e, f) (getD-append-add (messageWords m) xs j 0)) in
+    rw (message-back m xs w, shifted, ih)
 
-pub queue-back : (ms : List Message) → AllOf WordyMessage ms → length ms ≤ 8 → queue (cellWords ms) ≡ ms
+pub queue-back : (ms : List Message) → AllOf WordyMessage ms → length ms ≤ 8 → queue (cellWords (map messageWords ms)) ≡ ms
 unfolding queue cellWords
 queue-back ms w l =
-    messages-moved (length ms) (length ms ∷ placeWords 8 ms) (placeWords 8 ms) 1 0
-    (λ j q. let e : 0 + j ≡ j = omega arith in rw e (getD-append-add (length ms ∷ []) (placeWords 8 ms) j 0))
-    ∙ places-back 8 ms w l
+    let xs : List ℕ = slotWords 8 (map messageWords ms) in
+    ap (λ (k : ℕ). messagesAt k (length (map messageWords ms) ∷ xs) 1) (length-map ms messageWords)
+    ∙ messages-moved (length ms) (length (map messageWords ms) ∷ xs) xs 1 0
+    (λ j q. let e : 0 + j ≡ j = omega arith in rw e (getD-append-add (length (map messageWords ms) ∷ []) xs j 0))
+    ∙ slots-back 8 ms w l
 
 -- ---- a set's members, at any number
 
@@ -136,64 +118,35 @@ set-back n f (suc k) = go (choice (isNode n (suc k)))
 -- ---- the network
 
 module _ (n : ℕ) (p : Network) where
-  length-row : (u : ℕ) → length (nodeWords n (p .clock u) (p .neighbors u) (p .forming u) (p .height u)) ≡ width n
-  length-row u = node-length n (p .clock u) (p .neighbors u) (p .forming u) (p .height u)
-
-  -- the cells of the channels from u, and all
-  length-from : (u : ℕ) → length (rows n (λ v. cellWords (p .channel u v))) ≡ n * cellWidth
-  length-from u = length-rows n cellWidth (λ v. cellWords (p .channel u v)) (λ i _. cell-length (p .channel u (suc i)))
-
-  length-cells : length (rows n (λ u. rows n (λ v. cellWords (p .channel u v)))) ≡ n * (n * cellWidth)
-  length-cells = length-rows n (n * cellWidth) (λ u. rows n (λ v. cellWords (p .channel u v))) (λ i _. length-from (suc i))
-
-  pub node-of : (u : ℕ) → Node n u → nodeOf n u (tablesOf n p .nodes) ≡ nodeWords n (p .clock u) (p .neighbors u) (p .forming u) (p .height u)
+  pub node-of : (u : ℕ) → Node n u → nodeOf n u (tablesOf n p .nodes) ≡ rowWords n (recordsOf n p) u
   unfolding tablesOf
-  node-of u a =
-      let e : suc (u - 1) ≡ u = omega (arith, a .low) in
-      rows-at (width n) n (λ u. nodeWords n (p .clock u) (p .neighbors u) (p .forming u) (p .height u)) (λ i _. length-row (suc i))
-      (u - 1) (omega (arith, a .low, a .high))
-      ∙ ap (λ (u : ℕ). nodeWords n (p .clock u) (p .neighbors u) (p .forming u) (p .height u)) e
+  node-of u a = node-from n (recordsOf n p) (network-shaped n p) u a
 
-  pub cell-of : (u v : ℕ) → Node n u → Node n v → channelOf n u v (tablesOf n p .channels) ≡ cellWords (p .channel u v)
-  unfolding tablesOf
-  cell-of u v a b =
-      let e : suc (u - 1) ≡ u = omega (arith, a .low) in
-      let f : suc (v - 1) ≡ v = omega (arith, b .low) in
-      let i : u - 1 < n = omega (arith, a .low, a .high) in
-      let j : v - 1 < n = omega (arith, b .low, b .high) in
-      sym (row-in cellWidth n (u - 1) (v - 1) (rows n (λ u. rows n (λ v. cellWords (p .channel u v)))) length-cells i j)
-      ∙ ap (rowAt cellWidth (v - 1)) (rows-at (n * cellWidth) n (λ u. rows n (λ v. cellWords (p .channel u v))) (λ k _. length-from (suc k)) (u - 1) i)
-      ∙ rows-at cellWidth n (λ v. cellWords (p .channel (suc (u - 1)) v)) (λ k _. cell-length (p .channel (suc (u - 1)) (suc k))) (v - 1) j
-      ∙ rw (e, f)
+  pub cell-of : (u v : ℕ) → Node n u → Node n v → channelOf n u v (tablesOf n p .channels) ≡ cellWords (map messageWords (p .channel u v))
+  unfolding tablesOf recordsOf
+  cell-of u v a b = channel-from n (recordsOf n p) (network-shaped n p) u v a b
 
   pub tables-sized : 1 ≤ n → n ≤ 16 → Sized n (tablesOf n p)
   unfolding tablesOf
-  tables-sized l h = record {
-    low = l;
-    few = h;
-    nodes = length-rows n (width n) (λ u. nodeWords n (p .clock u) (p .neighbors u) (p .forming u) (p .height u)) (λ i _. length-row (suc i));
-    channels = length-cells ∙ omega arith;
-  }
+  tables-sized l h = made-sized n (recordsOf n p) (network-shaped n p) l h
 
 module _ (n : ℕ) (p : Network) (ok : Storable n p) where
-  heights-of : (u : ℕ) → Node n u → (v : ℕ) → heightIn (nodeWords n (p .clock u) (p .neighbors u) (p .forming u) (p .height u)) v
-      ≡ cond (isNode n v) (p .height u v) (fresh .height u v)
+  wide : (u : ℕ) → Node n u → length (rowWords n (recordsOf n p) u) ≡ width n
+  wide zero a = absurd (omega (arith, a .low))
+  wide (suc i) a = length-row n (recordsOf n p) (network-shaped n p) i (a .high)
+
+  heights-of : (u : ℕ) → Node n u → (v : ℕ) → heightIn (rowWords n (recordsOf n p) u) v ≡ cond (isNode n v) (p .height u v) (fresh .height u v)
   heights-of u a zero =
       let d : eqb u 0 ≡ false = ne-eqb u 0 (λ e. omega (arith, a .low)) in
       rw d (unfold heightIn in refl)
   heights-of u a (suc k) = go (choice (isNode n (suc k)))
     where
-      row : List ℕ
-      row = nodeWords n (p .clock u) (p .neighbors u) (p .forming u) (p .height u)
-
-      go : Choice (isNode n (suc k)) → heightIn row (suc k) ≡ cond (isNode n (suc k)) (p .height u (suc k)) (fresh .height u (suc k))
-      go (yes! e) =
-          let s = is-node n (suc k) e in
-          rw e (node-height n (p .clock u) (p .neighbors u) (p .forming u) (p .height u) k (omega (arith, s .high)) (ok .heights u (suc k) a s))
+      go : Choice (isNode n (suc k)) → heightIn (rowWords n (recordsOf n p) u) (suc k) ≡ cond (isNode n (suc k)) (p .height u (suc k)) (fresh .height u (suc k))
+      go (yes! e) = let s = is-node n (suc k) e in rw e (node-height n p u k (omega (arith, s .high)) (ok .heights u (suc k) a s))
       go (no! e) =
           let l = outside n k e in
           rw (e, ne-eqb u (suc k) (λ q. omega (arith, a .high)))
-          (height-past n row (node-length n (p .clock u) (p .neighbors u) (p .forming u) (p .height u)) k l)
+          (height-past n (rowWords n (recordsOf n p) u) (wide u a) k l)
 
   -- a function of nodes into functions, and a function of pairs
   nodes-pairs : {A : Type 0} (f g d : ℕ → ℕ → A) → ((u : ℕ) → Node n u → (v : ℕ) → f u v ≡ cond (isNode n v) (g u v) (d u v))
@@ -205,7 +158,7 @@ module _ (n : ℕ) (p : Network) (ok : Storable n p) where
       go u (yes! e) = fun-ext λ v. rw e (h u (is-node n u e) v)
 
   loaded : load n (tablesOf n p) ≡ restrict n p
-  unfolding load restrict nodeWords
+  unfolding load restrict rowWords recordsOf
   loaded = λ i. record {
     clock = same-nodes n (clockAt n (tablesOf n p)) (p .clock) (fresh .clock) (λ u a. ap clockIn (node-of n p u a)) i;
     neighbors = nodes-pairs (neighborsAt n (tablesOf n p)) (p .neighbors) (fresh .neighbors)

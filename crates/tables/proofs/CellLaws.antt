@@ -1,21 +1,21 @@
 -- A channel's cell: its messages after each operation, and that its messages give its words back.
--- Assumes nothing.
 use Prim.Native.Nat.{ℕ, zero, suc, _+_, _-_, _*_, _<_, _≤_}
 use native.Mathlib.Decide.{decLt}
 use native.Mathlib.Numerals.{towards-suc, add-one}
 use native.Mathlib.Omega.{arith}
-use mathlib.Core.List.{List, [], _∷_, _++_, tail}
+use mathlib.Core.List.{List, [], _∷_, _++_, map, tail}
 use mathlib.Core.Logic.{_⊎_, inl, inr}
 use mathlib.Core.Path.{_≡_, refl, sym, ap, _∙_}
-use lib.ListN.{getD, length, take, drop, replicate, set, length-set, length-append, length-drop, length-replicate, getD-replicate, List·getD-append}
+use lib.ListN.{getD, length, take, drop, replicate, set, length-set, length-append, length-drop, length-map, length-replicate, getD-replicate, List·getD-append}
 use lib.Seq.{drop-cons, take-all, getD-set-same, getD-set-other, getD-drop, getD-append-add}
 use Rattle.height.specs.Words.{heightAt, heightWords, storedAt, deltaWord}
 use Rattle.height.specs.declared.Height.{Height}
 use Rattle.height.proofs.WordsLaws.{same-words, load-stored, stored-before, stored-past, stored-length, word-signed, natAbs-neg, sets-in}
 use Rattle.protocol.specs.Network.{Message}
 use Rattle.basics.proofs.Tests.{equal?}
-use Rattle.tables.specs.Cell.{count, place, messageAt, messagesAt, queue, appended, taken, emptied, messageWords, placeWords, cellWords}
-use Rattle.tables.specs.Fit.{CellFits}
+use Rattle.tables.specs.Cell.{count, slot, messageAt, messagesAt, queue, appended, taken, emptied, messageWords}
+use Rattle.tables.specs.inner.Fit.{CellFits}
+use Rattle.tables.specs.Records.{slotWords, cellWords}
 use Rattle.tables.specs.Rows.{part}
 use Rattle.tables.specs.Tables.{cellWidth}
 use Rattle.tables.proofs.WordRuns.{run, part-run, part-add, run-zero}
@@ -37,37 +37,38 @@ messages-nth zero ws i m d l = absurd (omega arith)
 messages-nth (suc k) ws i zero d l = ap (messageAt ws) (omega arith)
 messages-nth (suc k) ws i (suc m) d l = messages-nth k ws (i + 8) m d (omega arith) ∙ ap (messageAt ws) (omega arith)
 
-places-back : (k c : ℕ) (ws : List ℕ) (i : ℕ) → i + k * 8 ≤ length ws → c ≤ k
+slots-back : (k c : ℕ) (ws : List ℕ) (i : ℕ) → i + k * 8 ≤ length ws → c ≤ k
     → ((j : ℕ) → j < k → getD ws (i + (j * 8 + 3)) 0 < 4294967296) → ((j : ℕ) → c * 8 ≤ j → j < k * 8 → getD ws (i + j) 0 ≡ 0)
-    → part i (k * 8) ws ≡ placeWords k (messagesAt c ws i)
-unfolding placeWords messagesAt
-places-back zero zero ws i f l d z = refl
-places-back zero (suc c) ws i f l d z = absurd (omega arith)
-places-back (suc k) zero ws i f l d z =
+    → part i (k * 8) ws ≡ slotWords k (map messageWords (messagesAt c ws i))
+unfolding slotWords messagesAt
+slots-back zero zero ws i f l d z = refl
+slots-back zero (suc c) ws i f l d z = absurd (omega arith)
+slots-back (suc k) zero ws i f l d z =
     let e : suc k * 8 ≡ 8 + k * 8 = omega arith in
     let first : part i 8 ws ≡ replicate 8 0 = part-run 8 i ws (omega arith) ∙ run-zero 8 i ws (λ j q. z j (omega arith) (omega arith)) in
-    let rest = places-back k zero ws (i + 8) (omega arith) (omega arith)
+    let rest = slots-back k zero ws (i + 8) (omega arith) (omega arith)
     (λ j q. let a : i + 8 + (j * 8 + 3) ≡ i + (suc j * 8 + 3) = omega arith in rw a (d (suc j) (omega arith)))
     (λ j q r. let a : i + 8 + j ≡ i + (8 + j) = omega arith in rw a (z (8 + j) (omega arith) (omega arith))) in
     ap (λ (m : ℕ). part i m ws) e ∙ part-add i 8 (k * 8) ws ∙ ap (λ (xs : List ℕ). xs ++ part (i + 8) (k * 8) ws) first
     ∙ ap (λ (xs : List ℕ). replicate 8 0 ++ xs) rest
-places-back (suc k) (suc c) ws i f l d z =
+slots-back (suc k) (suc c) ws i f l d z =
     let e : suc k * 8 ≡ 8 + k * 8 = omega arith in
     let first : part i 8 ws ≡ messageWords (messageAt ws i) = part-run 8 i ws (omega arith) ∙ run-message ws i (d 0 (omega arith)) in
-    let rest = places-back k c ws (i + 8) (omega arith) (omega arith)
+    let rest = slots-back k c ws (i + 8) (omega arith) (omega arith)
     (λ j q. let a : i + 8 + (j * 8 + 3) ≡ i + (suc j * 8 + 3) = omega arith in rw a (d (suc j) (omega arith)))
     (λ j q r. let a : i + 8 + j ≡ i + (8 + j) = omega arith in rw a (z (8 + j) (omega arith) (omega arith))) in
     ap (λ (m : ℕ). part i m ws) e ∙ part-add i 8 (k * 8) ws ∙ ap (λ (xs : List ℕ). xs ++ part (i + 8) (k * 8) ws) first
     ∙ ap (λ (xs : List ℕ). messageWords (messageAt ws i) ++ xs) rest
 
-pub cell-back : (cell : List ℕ) → CellFits cell → cell ≡ cellWords (queue cell)
+pub cell-back : (cell : List ℕ) → CellFits cell → cell ≡ cellWords (map messageWords (queue cell))
 unfolding cellWords queue
 cell-back cell fits =
     let a : cell ≡ getD cell 0 0 ∷ drop 1 cell = drop-cons cell 0 0 (omega (arith, fits .wide)) in
     let b : drop 1 cell ≡ part 1 64 cell = sym (part-all 64 cell (fits .wide)) in
-    let c = places-back 8 (count cell) cell 1 (omega (arith, fits .wide)) (fits .few) (fits .deltas) (fits .unused) in
-    let d = messages-length (count cell) cell 1 in
-    a ∙ ap (λ (xs : List ℕ). getD cell 0 0 ∷ xs) (b ∙ c) ∙ ap (λ (k : ℕ). k ∷ placeWords 8 (messagesAt (count cell) cell 1)) (sym d)
+    let c = slots-back 8 (count cell) cell 1 (omega (arith, fits .wide)) (fits .few) (fits .deltas) (fits .unused) in
+    let ms : List Message = messagesAt (count cell) cell 1 in
+    let d = length-map ms messageWords ∙ messages-length (count cell) cell 1 in
+    a ∙ ap (λ (xs : List ℕ). getD cell 0 0 ∷ xs) (b ∙ c) ∙ ap (λ (k : ℕ). k ∷ slotWords 8 (map messageWords ms)) (sym d)
   where
     part-all : (k : ℕ) (xs : List ℕ) → length xs ≡ suc k → take k (drop 1 xs) ≡ drop 1 xs
     part-all k [] h = absurd (omega arith)
@@ -97,39 +98,39 @@ module _ (cell : List ℕ) (h : Height) (t : ℕ) (fits : CellFits cell) (room :
   c = count cell
 
   stored : List ℕ
-  stored = storedAt cell (place (count cell)) h
+  stored = storedAt cell (slot (count cell)) h
 
-  -- a word outside the place of the new message, and past the count
-  appended-other : (j : ℕ) → 1 ≤ j → place (count cell) + 8 ≤ j → getD (appended cell h t) j 0 ≡ getD cell j 0
+  -- a word outside the slot of the new message, and past the count
+  appended-other : (j : ℕ) → 1 ≤ j → slot (count cell) + 8 ≤ j → getD (appended cell h t) j 0 ≡ getD cell j 0
   unfolding appended
   appended-other j l q =
-      getD-set-other (set (storedAt cell (place (count cell)) h) (place (count cell) + 7) t) 0 j (count cell + 1) 0 (λ e. omega arith)
-      ∙ getD-set-other (storedAt cell (place (count cell)) h) (place (count cell) + 7) j t 0 (λ e. omega arith)
-      ∙ stored-past cell (place (count cell)) h j (omega arith)
+      getD-set-other (set (storedAt cell (slot (count cell)) h) (slot (count cell) + 7) t) 0 j (count cell + 1) 0 (λ e. omega arith)
+      ∙ getD-set-other (storedAt cell (slot (count cell)) h) (slot (count cell) + 7) j t 0 (λ e. omega arith)
+      ∙ stored-past cell (slot (count cell)) h j (omega arith)
 
-  appended-before : (j : ℕ) → 1 ≤ j → j < place (count cell) → getD (appended cell h t) j 0 ≡ getD cell j 0
+  appended-before : (j : ℕ) → 1 ≤ j → j < slot (count cell) → getD (appended cell h t) j 0 ≡ getD cell j 0
   unfolding appended
   appended-before j l q =
-      getD-set-other (set (storedAt cell (place (count cell)) h) (place (count cell) + 7) t) 0 j (count cell + 1) 0 (λ e. omega arith)
-      ∙ getD-set-other (storedAt cell (place (count cell)) h) (place (count cell) + 7) j t 0 (λ e. omega arith)
-      ∙ stored-before cell (place (count cell)) h j q
+      getD-set-other (set (storedAt cell (slot (count cell)) h) (slot (count cell) + 7) t) 0 j (count cell + 1) 0 (λ e. omega arith)
+      ∙ getD-set-other (storedAt cell (slot (count cell)) h) (slot (count cell) + 7) j t 0 (λ e. omega arith)
+      ∙ stored-before cell (slot (count cell)) h j q
 
-  appended-in : (j : ℕ) → j < 7 → getD (appended cell h t) (place (count cell) + j) 0 ≡ getD stored (place (count cell) + j) 0
+  appended-in : (j : ℕ) → j < 7 → getD (appended cell h t) (slot (count cell) + j) 0 ≡ getD stored (slot (count cell) + j) 0
   unfolding appended stored
   appended-in j q =
-      getD-set-other (set (storedAt cell (place (count cell)) h) (place (count cell) + 7) t) 0 (place (count cell) + j) (count cell + 1) 0 (λ e. omega arith)
-      ∙ getD-set-other (storedAt cell (place (count cell)) h) (place (count cell) + 7) (place (count cell) + j) t 0 (λ e. omega arith)
+      getD-set-other (set (storedAt cell (slot (count cell)) h) (slot (count cell) + 7) t) 0 (slot (count cell) + j) (count cell + 1) 0 (λ e. omega arith)
+      ∙ getD-set-other (storedAt cell (slot (count cell)) h) (slot (count cell) + 7) (slot (count cell) + j) t 0 (λ e. omega arith)
 
-  appended-timestamp : getD (appended cell h t) (place (count cell) + 7) 0 ≡ t
+  appended-timestamp : getD (appended cell h t) (slot (count cell) + 7) 0 ≡ t
   unfolding appended
   appended-timestamp =
-      getD-set-other (set (storedAt cell (place (count cell)) h) (place (count cell) + 7) t) 0 (place (count cell) + 7) (count cell + 1) 0 (λ e. omega arith)
-      ∙ getD-set-same (storedAt cell (place (count cell)) h) (place (count cell) + 7) t 0 (simp stored-length (omega (arith, fits .wide)))
+      getD-set-other (set (storedAt cell (slot (count cell)) h) (slot (count cell) + 7) t) 0 (slot (count cell) + 7) (count cell + 1) 0 (λ e. omega arith)
+      ∙ getD-set-same (storedAt cell (slot (count cell)) h) (slot (count cell) + 7) t 0 (simp stored-length (omega (arith, fits .wide)))
 
   pub appended-count : count (appended cell h t) ≡ count cell + 1
   unfolding appended
   appended-count =
-      getD-set-same (set (storedAt cell (place (count cell)) h) (place (count cell) + 7) t) 0 (count cell + 1) 0
+      getD-set-same (set (storedAt cell (slot (count cell)) h) (slot (count cell) + 7) t) 0 (count cell + 1) 0
       (simp (length-set, stored-length) (omega (arith, fits .wide)))
 
   pub appended-wide : length (appended cell h t) ≡ 65
@@ -139,9 +140,9 @@ module _ (cell : List ℕ) (h : Height) (t : ℕ) (fits : CellFits cell) (room :
   appended-message : messageAt (appended cell h t) (1 + count cell * 8) ≡ record { height = h; timestamp = t }
   unfolding messageAt stored
   appended-message =
-      let e : heightAt (appended cell h t) (place (count cell)) ≡ h =
-      same-words _ stored (place (count cell)) (place (count cell)) appended-in
-      ∙ load-stored cell (place (count cell)) h (omega (arith, fits .wide)) (w .delta) (w .nlts) in
+      let e : heightAt (appended cell h t) (slot (count cell)) ≡ h =
+      same-words _ stored (slot (count cell)) (slot (count cell)) appended-in
+      ∙ load-stored cell (slot (count cell)) h (omega (arith, fits .wide)) (w .delta) (w .nlts) in
       rw (e, appended-timestamp)
 
   pub queue-appended : queue (appended cell h t) ≡ queue cell ++ (record { height = h; timestamp = t } ∷ [])
@@ -153,8 +154,8 @@ module _ (cell : List ℕ) (h : Height) (t : ℕ) (fits : CellFits cell) (room :
       (messages-same (count cell) (appended cell h t) cell 1 (λ j q. appended-before (1 + j) (omega arith) (omega arith)))
       ∙ ap (λ (m : Message). messagesAt (count cell) cell 1 ++ (m ∷ [])) appended-message
 
-  place-word : (k : ℕ) → k < 8 → (k ≡ count cell → ⊥) → getD (appended cell h t) (1 + (k * 8 + 3)) 0 ≡ getD cell (1 + (k * 8 + 3)) 0
-  place-word k l d = go (decLt k (count cell))
+  slot-word : (k : ℕ) → k < 8 → (k ≡ count cell → ⊥) → getD (appended cell h t) (1 + (k * 8 + 3)) 0 ≡ getD cell (1 + (k * 8 + 3)) 0
+  slot-word k l d = go (decLt k (count cell))
     where
       go : Dec (k < count cell) → getD (appended cell h t) (1 + (k * 8 + 3)) 0 ≡ getD cell (1 + (k * 8 + 3)) 0
       go (yes q) = appended-before (1 + (k * 8 + 3)) (omega arith) (omega arith)
@@ -163,9 +164,9 @@ module _ (cell : List ℕ) (h : Height) (t : ℕ) (fits : CellFits cell) (room :
   new-delta : getD (appended cell h t) (1 + (count cell * 8 + 3)) 0 < 4294967296
   unfolding stored storedAt heightWords
   new-delta =
-      let e : 1 + (count cell * 8 + 3) ≡ place (count cell) + 3 = omega arith in
-      let q : getD (appended cell h t) (place (count cell) + 3) 0 ≡ deltaWord (h .delta) =
-      appended-in 3 (omega arith) ∙ sets-in cell (place (count cell)) (heightWords h) 3 0 (omega arith) (omega (arith, fits .wide)) in
+      let e : 1 + (count cell * 8 + 3) ≡ slot (count cell) + 3 = omega arith in
+      let q : getD (appended cell h t) (slot (count cell) + 3) 0 ≡ deltaWord (h .delta) =
+      appended-in 3 (omega arith) ∙ sets-in cell (slot (count cell)) (heightWords h) 3 0 (omega arith) (omega (arith, fits .wide)) in
       rw (e, q) (word-lt (h .delta) (w .delta))
 
   pub appended-fits : CellFits (appended cell h t)
@@ -178,7 +179,7 @@ module _ (cell : List ℕ) (h : Height) (t : ℕ) (fits : CellFits cell) (room :
     where
       depth : (k : ℕ) → k < 8 → (k ≡ count cell) ⊎ (k ≡ count cell → ⊥) → getD (appended cell h t) (1 + (k * 8 + 3)) 0 < 4294967296
       depth k l (inl e) = rw e new-delta
-      depth k l (inr d) = rw (place-word k l d) (fits .deltas k l)
+      depth k l (inr d) = rw (slot-word k l d) (fits .deltas k l)
 
 -- ---- without the first message
 

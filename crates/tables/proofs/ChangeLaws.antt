@@ -1,5 +1,4 @@
 -- Functions of nodes and of pairs that are changed at one node: how a loaded network shows one row or some cells replaced.
--- Assumes nothing.
 use Prim.Native.Nat.{ℕ}
 use mathlib.Core.Bool.{false}
 use mathlib.Core.Logic.{_⊎_, inl, inr}

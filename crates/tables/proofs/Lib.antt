@@ -1,9 +1,9 @@
 -- Laws of the lent tables.
--- Assumes nothing of its own: each module says what it assumes.
 pub mod Sizes
 pub mod RowsLaws
 pub mod RowsMore
 pub mod WordRuns
+pub mod RecordsLaws
 pub mod Wordy
 pub mod RowLaws
 pub mod CellLaws

@@ -1,5 +1,4 @@
 -- A node's row: what it holds after it is written, and that its numbers give its words back.
--- Assumes nothing.
 use Prim.Native.Nat.{ℕ, zero, suc, _+_, _*_, _^_, _<_, _≤_}
 use native.Mathlib.Omega.{arith}
 use native.Mathlib.Decide.{decLt}
@@ -12,14 +11,14 @@ use Rattle.height.specs.Height.{zeroHeight}
 use Rattle.height.specs.Words.{heightAt, heightWords, storedAt, deltaOf}
 use Rattle.height.specs.declared.Height.{Height}
 use Rattle.height.proofs.WordsLaws.{same-words, load-stored, load-before, load-past, stored-before, stored-past, stored-length, sets-in}
-use Rattle.nodeset.specs.NodeSet.{member}
+use Rattle.nodeset.specs.NodeSet.{member, setOf}
 use Rattle.nodeset.proofs.Members.{setOf-member}
 use Rattle.protocol.specs.Network.{Node}
 use Rattle.basics.specs.Functions.{update}
 use Rattle.basics.proofs.Tests.{equal?}
 use Rattle.basics.proofs.FunctionsLaws.{update-at, update-off}
-use Rattle.tables.specs.Fit.{RowFits}
-use Rattle.tables.specs.Row.{clockIn, neighborsIn, formingIn, heightIn, putHeight, headed, nodeWords}
+use Rattle.tables.specs.inner.Fit.{RowFits}
+use Rattle.tables.specs.Row.{clockIn, neighborsIn, formingIn, heightIn, putHeight, withHead}
 use Rattle.tables.specs.Rows.{rowAt, rows}
 use Rattle.tables.specs.Tables.{width}
 use Rattle.tables.proofs.WordRuns.{part-run, rows-are, run-words}
@@ -36,8 +35,7 @@ module _ (n : ℕ) (row : List ℕ) (fits : RowFits n row) where
       at i l =
           ap (take 7) (drop-drop (i * 7) 3 row) ∙ part-run 7 (3 + i * 7) row (omega (arith, fits .wide)) ∙ run-words row (3 + i * 7) (fits .deltas i l)
 
-  pub row-back : row ≡ nodeWords n (clockIn row) (member (neighborsIn row)) (member (formingIn row)) (heightIn row)
-  unfolding nodeWords
+  pub row-back : row ≡ clockIn row ∷ setOf n (member (neighborsIn row)) ∷ setOf n (member (formingIn row)) ∷ rows n (λ v. heightWords (heightIn row v))
   row-back =
       let a : row ≡ clockIn row ∷ drop 1 row = drop-cons row 0 0 (omega (arith, fits .wide)) in
       let b : drop 1 row ≡ neighborsIn row ∷ drop 2 row = drop-cons row 1 0 (omega (arith, fits .wide)) in
@@ -117,40 +115,40 @@ put-fits n row fits (suc k) a h w = record {
 -- ---- the three words before the heights
 
 module _ (row : List ℕ) (clock N F : ℕ) (long : 3 ≤ length row) where
-  headed-length : length (headed row clock N F) ≡ length row
-  unfolding headed
+  headed-length : length (withHead row clock N F) ≡ length row
+  unfolding withHead
   headed-length = simp length-set
 
-  pub headed-clock : clockIn (headed row clock N F) ≡ clock
-  unfolding headed
+  pub headed-clock : clockIn (withHead row clock N F) ≡ clock
+  unfolding withHead
   headed-clock =
       getD-set-other (set (set row 0 clock) 1 N) 2 0 F 0 (λ e. omega arith)
       ∙ getD-set-other (set row 0 clock) 1 0 N 0 (λ e. omega arith) ∙ getD-set-same row 0 clock 0 (omega arith)
 
-  pub headed-neighbors : neighborsIn (headed row clock N F) ≡ N
-  unfolding headed
+  pub headed-neighbors : neighborsIn (withHead row clock N F) ≡ N
+  unfolding withHead
   headed-neighbors =
       getD-set-other (set (set row 0 clock) 1 N) 2 1 F 0 (λ e. omega arith) ∙ getD-set-same (set row 0 clock) 1 N 0 (simp length-set (omega arith))
 
-  pub headed-forming : formingIn (headed row clock N F) ≡ F
-  unfolding headed
+  pub headed-forming : formingIn (withHead row clock N F) ≡ F
+  unfolding withHead
   headed-forming = getD-set-same (set (set row 0 clock) 1 N) 2 F 0 (simp length-set (omega arith))
 
-  headed-word : (j : ℕ) → 3 ≤ j → getD (headed row clock N F) j 0 ≡ getD row j 0
-  unfolding headed
+  headed-word : (j : ℕ) → 3 ≤ j → getD (withHead row clock N F) j 0 ≡ getD row j 0
+  unfolding withHead
   headed-word j q =
       getD-set-other (set (set row 0 clock) 1 N) 2 j F 0 (λ e. omega arith)
       ∙ getD-set-other (set row 0 clock) 1 j N 0 (λ e. omega arith) ∙ getD-set-other row 0 j clock 0 (λ e. omega arith)
 
-  headed-height : (z : ℕ) → heightIn (headed row clock N F) z ≡ heightIn row z
+  headed-height : (z : ℕ) → heightIn (withHead row clock N F) z ≡ heightIn row z
   unfolding heightIn
   headed-height zero = refl
-  headed-height (suc k) = same-words (headed row clock N F) row (3 + k * 7) (3 + k * 7) (λ j q. headed-word (3 + k * 7 + j) (omega arith))
+  headed-height (suc k) = same-words (withHead row clock N F) row (3 + k * 7) (3 + k * 7) (λ j q. headed-word (3 + k * 7 + j) (omega arith))
 
-  pub headed-heights : heightIn (headed row clock N F) ≡ heightIn row
+  pub headed-heights : heightIn (withHead row clock N F) ≡ heightIn row
   headed-heights = fun-ext headed-height
 
-pub headed-fits : (n : ℕ) (row : List ℕ) → RowFits n row → (clock N F : ℕ) → N < 2 ^ n → F < 2 ^ n → RowFits n (headed row clock N F)
+pub headed-fits : (n : ℕ) (row : List ℕ) → RowFits n row → (clock N F : ℕ) → N < 2 ^ n → F < 2 ^ n → RowFits n (withHead row clock N F)
 headed-fits n row fits clock N F hN hF = record {
   wide = headed-length row clock N F long ∙ fits .wide;
   neighbors-lt = rw (headed-neighbors row clock N F long) hN;

@@ -1,5 +1,4 @@
 -- Rows laid end to end: a row put into a table is read back, every other row is kept, and a lent part of a slice is a row.
--- Assumes nothing.
 use Prim.Native.Nat.{ℕ, zero, suc, _+_, _-_, _*_, _≤_, _<_}
 use mathlib.Core.Path.{_≡_, ap, sym, _∙_}
 use mathlib.Core.List.{List, _++_}

@@ -1,5 +1,4 @@
 -- Rows of any lengths laid end to end: one more at the end, the ones after the first k, their length, each row, what stands behind a piece.
--- Assumes nothing.
 use Prim.Native.Nat.{ℕ, zero, suc, _+_, _*_, _<_}
 use native.Mathlib.Nat.{add-zero, zero-add, zero-mul, suc-mul}
 use native.Mathlib.Omega.{arith}

@@ -1,4 +1,4 @@
--- Heights that their seven words give back. Assumes nothing.
+-- Heights that their seven words give back.
 -- Every loaded height is one, and so is every height within the ranges of document 01.
 use Prim.Native.Nat.{ℕ, _<_}
 use native.Mathlib.Omega.{arith}

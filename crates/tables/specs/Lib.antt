@@ -1,8 +1,8 @@
 -- The lent tables: rows and cells of words, and the network that they hold.
--- Assumes nothing: these are definitions.
 pub mod Rows
 pub mod Tables
 pub mod Row
 pub mod Cell
+pub mod Records
 pub mod Load
-pub mod Fit
+pub mod inner

@@ -6,10 +6,10 @@ use mathlib.Core.List.{List}
 use Rattle.height.specs.declared.Height.{Height}
 use Rattle.nodeset.specs.NodeSet.{member}
 use Rattle.protocol.specs.Network.{Message, Network, fresh, atNodes, atPairs}
-use Rattle.tables.specs.Rows.{rows}
-use Rattle.tables.specs.Tables.{Tables, tables, nodeOf, channelOf}
-use Rattle.tables.specs.Row.{clockIn, neighborsIn, formingIn, heightIn, nodeWords}
-use Rattle.tables.specs.Cell.{queue, cellWords}
+use Rattle.tables.specs.Tables.{Tables, nodeOf, channelOf}
+use Rattle.tables.specs.Row.{clockIn, neighborsIn, formingIn, heightIn}
+use Rattle.tables.specs.Cell.{queue}
+use Rattle.tables.specs.Records.{recordsOf, tablesFrom}
 
 abbrev pub clockAt : ℕ → Tables → ℕ → ℕ
 clockAt n t u = clockIn (nodeOf n u (t .nodes))
@@ -36,6 +36,4 @@ load n t = record {
 }
 
 unfoldable pub tablesOf : ℕ → Network → Tables
-tablesOf n p =
-    tables (rows n (λ u. nodeWords n (p .clock u) (p .neighbors u) (p .forming u) (p .height u)))
-    (rows n (λ u. rows n (λ v. cellWords (p .channel u v))))
+tablesOf n p = tablesFrom n (recordsOf n p)

@@ -1,13 +1,11 @@
 -- A node's row: clock, linked set N, forming set F, then the heights of nodes 1 to n, its own and its views.
 use Prim.Native.Nat.{ℕ, zero, suc, _+_, _*_}
-use mathlib.Core.Bool.{Bool}
-use mathlib.Core.List.{List, _∷_}
+use mathlib.Core.List.{List}
 use lib.ListN.{getD, set}
 use Rattle.height.specs.Height.{zeroHeight}
-use Rattle.height.specs.Words.{heightAt, heightWords, storedAt}
+use Rattle.height.specs.Words.{heightAt, storedAt}
 use Rattle.height.specs.declared.Height.{Height}
-use Rattle.nodeset.specs.NodeSet.{setOf}
-use Rattle.tables.specs.Rows.{rows}
+use Rattle.tables.specs.Tables.{rowHead, heightSize}
 
 abbrev pub clockIn : List ℕ → ℕ
 clockIn row = getD row 0 0
@@ -21,16 +19,13 @@ formingIn row = getD row 2 0
 -- the height of node v as the row holds it; there is no node 0
 unfoldable pub heightIn : List ℕ → ℕ → Height
 heightIn row zero = zeroHeight
-heightIn row (suc k) = heightAt row (3 + k * 7)
+heightIn row (suc k) = heightAt row (rowHead + k * heightSize)
 
 unfoldable pub putHeight : List ℕ → ℕ → Height → List ℕ
 putHeight row zero h = row
-putHeight row (suc k) h = storedAt row (3 + k * 7) h
+putHeight row (suc k) h = storedAt row (rowHead + k * heightSize) h
 
 -- the row with this clock and these sets
-unfoldable pub headed : List ℕ → ℕ → ℕ → ℕ → List ℕ
-headed row clock N F = set (set (set row 0 clock) 1 N) 2 F
+unfoldable pub withHead : List ℕ → ℕ → ℕ → ℕ → List ℕ
+withHead row clock N F = set (set (set row 0 clock) 1 N) 2 F
 
--- a node's numbers as words
-unfoldable pub nodeWords : ℕ → ℕ → (ℕ → Bool) → (ℕ → Bool) → (ℕ → Height) → List ℕ
-nodeWords n clock N F row = clock ∷ setOf n N ∷ setOf n F ∷ rows n (λ v. heightWords (row v))

@@ -1,5 +1,4 @@
 -- A table as rows of one width, laid end to end; row 0 first.
--- Assumes nothing: these are definitions.
 use Prim.Native.Nat.{ℕ, zero, suc, _*_}
 use mathlib.Core.List.{List, [], _++_}
 use lib.ListN.{take, drop}

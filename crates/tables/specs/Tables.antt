@@ -1,4 +1,4 @@
--- The two lent tables: n rows of 3 + 7n words, a node each, and n times n cells of 65 words, a channel each.
+-- The two lent tables: n rows, a node each, and n times n cells, a channel each.
 -- The cells from a node to itself are unused.
 use Prim.Native.Nat.{ℕ, _+_, _-_, _*_, _≤_}
 use mathlib.Core.Bool.{Bool, _&&_}
@@ -8,6 +8,7 @@ use lib.Dec.{eqb, leb}
 use lib.ListN.{length}
 use denote.Ref.{RefT}
 use denote.Triple.Both.{Both}
+use Rattle.protocol.specs.Network.{capacity}
 use Rattle.tables.specs.Rows.{rowAt, putRow}
 
 pub record Tables : Type 0 where
@@ -27,13 +28,24 @@ atEntry nodes channels = tables (nodes .entry .now) (channels .entry .now)
 abbrev pub atExit : {E F : Type 0} → Both E (RefT (List ℕ)) → Both F (RefT (List ℕ)) → Tables
 atExit nodes channels = tables (nodes .exit .now) (channels .exit .now)
 
--- words of a node's row: clock, linked set, forming set, n heights of seven words
-abbrev pub width : ℕ → ℕ
-width n = 3 + 7 * n
+-- words of a row atEntry its heights: clock, linked set, forming set
+abbrev pub rowHead : ℕ
+rowHead = 3
 
--- words of a channel's cell: count, eight places of eight words
+-- words of a height, and of a message: its height and its timestamp
+abbrev pub heightSize : ℕ
+heightSize = 7
+
+abbrev pub messageSize : ℕ
+messageSize = heightSize + 1
+
+-- words of a node's row of n heights
+abbrev pub width : ℕ → ℕ
+width n = rowHead + heightSize * n
+
+-- words of a channel's cell: the count, then a slot for each message
 abbrev pub cellWidth : ℕ
-cellWidth = 65
+cellWidth = 1 + capacity * messageSize
 
 -- refusal 1: n outside 1 to 16, or a table not of the length for n
 unfoldable pub sized : ℕ → Tables → Bool

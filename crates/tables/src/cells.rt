@@ -1,13 +1,20 @@
 // A channel's cell, and the operations on it: count, nth message, append, take the first, clear, zero after the messages.
 // Beside these only image/src/cells.rt (records) touches a cell's words. Each function assumes what its `requires` states.
 ghost use mathlib.Core.Path.{_≡_};
-ghost use Prim.Native.Nat.{_+_, _*_, _≤_, _<_};
+ghost use Prim.Native.Nat.{_≤_, _<_};
 ghost use lib.ListN.{length, replicate, drop};
 ghost use Rattle.height.specs.Words.{Negated};
-ghost use Rattle.tables.specs.Cell.{count, messageAt, appended, taken, emptied, allZero};
+ghost use Rattle.protocol.specs.Network.{capacity};
+ghost use Rattle.tables.specs.Cell.{count, slot, messageAt, appended, taken, emptied, allZero};
 ghost use Rattle.tables.specs.Tables.{cellWidth};
+use super::CELL_WIDTH;
+use super::HEIGHT_SIZE;
+use super::MESSAGE_SIZE;
 use height::Height;
 use height::Time;
+
+// Where the last slot starts.
+const LAST_SLOT: usize = CELL_WIDTH - MESSAGE_SIZE;
 
 // How many messages wait.
 pub fn waiting(cell: &[u32]) -> u32
@@ -19,52 +26,52 @@ pub fn waiting(cell: &[u32]) -> u32
 
 // Message k, counted from 0: its height and its timestamp.
 pub fn nth_height(cell: &[u32], k: usize) -> Height
-    requires { ⌜ (length (now cell) ≡ cellWidth) × (k < 8) ⌝ }
-    ensures { λ r. ⌜ (r ≡ messageAt (now (cell .entry)) (1 + k * 8) .height) × Negated (r .pair .nlts .0) ⌝ }
+    requires { ⌜ (length (now cell) ≡ cellWidth) × (k < capacity) ⌝ }
+    ensures { λ r. ⌜ (r ≡ messageAt (now (cell .entry)) (slot k) .height) × Negated (r .pair .nlts .0) ⌝ }
 {
-    height::words::load_height(cell, 1 + k * 8)
+    height::words::load_height(cell, 1 + k * MESSAGE_SIZE)
 }
 
 pub fn nth_timestamp(cell: &[u32], k: usize) -> Time
-    requires { ⌜ (length (now cell) ≡ cellWidth) × (k < 8) ⌝ }
-    ensures { λ r. ⌜ r .0 ≡ messageAt (now (cell .entry)) (1 + k * 8) .timestamp ⌝ }
+    requires { ⌜ (length (now cell) ≡ cellWidth) × (k < capacity) ⌝ }
+    ensures { λ r. ⌜ r .0 ≡ messageAt (now (cell .entry)) (slot k) .timestamp ⌝ }
 {
-    Time(cell[1 + k * 8 + 7])
+    Time(cell[1 + k * MESSAGE_SIZE + HEIGHT_SIZE])
 }
 
 // Whether every word after the first `count` messages is zero.
 pub fn is_unused_after(cell: &[u32], count: usize) -> bool
-    requires { ⌜ (length (now cell) ≡ cellWidth) × (count ≤ 8) ⌝ }
-    ensures { λ r. ⌜ r ≡ allZero (drop (1 + count * 8) (now (cell .entry))) ⌝ }
+    requires { ⌜ (length (now cell) ≡ cellWidth) × (count ≤ capacity) ⌝ }
+    ensures { λ r. ⌜ r ≡ allZero (drop (slot count) (now (cell .entry))) ⌝ }
 {
-    let a = 1 + count * 8;
+    let a = 1 + count * MESSAGE_SIZE;
     all_zero(&cell[a..])
 }
 
 // One more message.
 pub fn append(cell: &mut [u32], h: Height, t: Time)
-    requires { ⌜ (length (now cell) ≡ cellWidth) × (count (now cell) < 8) × Negated (h .pair .nlts .0) ⌝ }
+    requires { ⌜ (length (now cell) ≡ cellWidth) × (count (now cell) < capacity) × Negated (h .pair .nlts .0) ⌝ }
     ensures { λ _. ⌜ now (cell .exit) ≡ appended (now (cell .entry)) h (t .0) ⌝ }
 {
     let waiting = cell[0];
-    let place = 1 + waiting as usize * 8;
-    height::words::store_height(cell, place, h);
-    cell[place + 7] = t.0;
+    let slot = 1 + waiting as usize * MESSAGE_SIZE;
+    height::words::store_height(cell, slot, h);
+    cell[slot + HEIGHT_SIZE] = t.0;
     cell[0] = waiting + 1;
 }
 
-// The first message leaves: the others move up one place, and the place that is free is zeroed.
+// The first message leaves: the others move up one slot, and the slot that is free is zeroed.
 pub fn take_first(cell: &mut [u32])
     requires { ⌜ (length (now cell) ≡ cellWidth) × (1 ≤ count (now cell)) ⌝ }
     ensures { λ _. ⌜ now (cell .exit) ≡ taken (now (cell .entry)) ⌝ }
 {
     let waiting = cell[0];
     let mut i = 1;
-    while i < 57 {
-        cell[i] = cell[i + 8];
+    while i < LAST_SLOT {
+        cell[i] = cell[i + MESSAGE_SIZE];
         i += 1;
     }
-    fill_zero(&mut cell[57..65]);
+    fill_zero(&mut cell[LAST_SLOT..CELL_WIDTH]);
     cell[0] = waiting - 1;
 }
 

@@ -4,8 +4,11 @@ ghost use Prim.Native.Nat.{_+_, _-_, _*_, _≤_, _<_};
 ghost use lib.ListN.{length};
 ghost use Rattle.height.specs.Words.{Negated};
 ghost use Rattle.protocol.specs.Network.{Node};
-ghost use Rattle.tables.specs.Tables.{width, cellWidth, nodeOf, pairOf, channelOf};
-ghost use Rattle.tables.specs.Row.{clockIn, neighborsIn, formingIn, heightIn, putHeight, headed};
+ghost use Rattle.tables.specs.Tables.{rowHead, width, cellWidth, nodeOf, pairOf, channelOf};
+ghost use Rattle.tables.specs.Row.{clockIn, neighborsIn, formingIn, heightIn, putHeight, withHead};
+use super::CELL_WIDTH;
+use super::HEIGHT_SIZE;
+use super::ROW_HEAD;
 use height::Height;
 use height::Time;
 
@@ -23,7 +26,7 @@ pub fn node_start(n: u32, u: u32) -> usize
     ensures { λ r. ⌜ (r ≡ (u - 1) * width n) × (r + width n ≤ n * width n) × (r ≤ 65536) ⌝ }
 {
     let count = n as usize;
-    start((u - 1) as usize, 3 + 7 * count, count)
+    start((u - 1) as usize, ROW_HEAD + HEIGHT_SIZE * count, count)
 }
 
 // Where the cell of channel u to v starts.
@@ -34,7 +37,7 @@ pub fn channel_start(n: u32, u: u32, v: u32) -> usize
     let count = n as usize;
     let i = (u - 1) as usize;
     let j = (v - 1) as usize;
-    start(i * count + j, 65, count * count)
+    start(i * count + j, CELL_WIDTH, count * count)
 }
 
 // Node u's row, to be read.
@@ -43,7 +46,7 @@ pub fn node<'a>(n: u32, u: u32, nodes: &'a [u32]) -> &'a [u32]
     ensures { λ r. ⌜ (now r ≡ nodeOf n u (now (nodes .entry))) × (length (now r) ≡ width n) ⌝ }
 {
     let a = node_start(n, u);
-    let e = a + (3 + 7 * (n as usize));
+    let e = a + (ROW_HEAD + HEIGHT_SIZE * (n as usize));
     &nodes[a..e]
 }
 
@@ -53,28 +56,28 @@ pub fn channel<'a>(n: u32, u: u32, v: u32, channels: &'a [u32]) -> &'a [u32]
     ensures { λ r. ⌜ (now r ≡ channelOf n u v (now (channels .entry))) × (length (now r) ≡ cellWidth) ⌝ }
 {
     let a = channel_start(n, u, v);
-    let e = a + 65;
+    let e = a + CELL_WIDTH;
     &channels[a..e]
 }
 
 // ---- what a row holds
 
 pub fn clock(row: &[u32]) -> Time
-    requires { ⌜ 3 ≤ length (now row) ⌝ }
+    requires { ⌜ rowHead ≤ length (now row) ⌝ }
     ensures { λ r. ⌜ r .0 ≡ clockIn (now (row .entry)) ⌝ }
 {
     Time(row[0])
 }
 
 pub fn neighbors(row: &[u32]) -> u16
-    requires { ⌜ (3 ≤ length (now row)) × (neighborsIn (now row) < 65536) ⌝ }
+    requires { ⌜ (rowHead ≤ length (now row)) × (neighborsIn (now row) < 65536) ⌝ }
     ensures { λ r. ⌜ r ≡ neighborsIn (now (row .entry)) ⌝ }
 {
     row[1] as u16
 }
 
 pub fn forming(row: &[u32]) -> u16
-    requires { ⌜ (3 ≤ length (now row)) × (formingIn (now row) < 65536) ⌝ }
+    requires { ⌜ (rowHead ≤ length (now row)) × (formingIn (now row) < 65536) ⌝ }
     ensures { λ r. ⌜ r ≡ formingIn (now (row .entry)) ⌝ }
 {
     row[2] as u16
@@ -86,7 +89,7 @@ pub fn height_in(n: u32, row: &[u32], v: u32) -> Height
     ensures { λ r. ⌜ (r ≡ heightIn (now (row .entry)) v) × Negated (r .pair .nlts .0) ⌝ }
 {
     let k = (v - 1) as usize;
-    height::words::load_height(row, 3 + k * 7)
+    height::words::load_height(row, ROW_HEAD + k * HEIGHT_SIZE)
 }
 
 // ---- what is written to a row
@@ -97,13 +100,13 @@ pub fn put_height(n: u32, row: &mut [u32], v: u32, h: Height)
     ensures { λ _. ⌜ now (row .exit) ≡ putHeight (now (row .entry)) v h ⌝ }
 {
     let k = (v - 1) as usize;
-    height::words::store_height(row, 3 + k * 7, h);
+    height::words::store_height(row, ROW_HEAD + k * HEIGHT_SIZE, h);
 }
 
 // The clock and both sets.
 pub fn put_head(row: &mut [u32], clock: Time, neighbors: u16, forming: u16)
-    requires { ⌜ 3 ≤ length (now row) ⌝ }
-    ensures { λ _. ⌜ now (row .exit) ≡ headed (now (row .entry)) (clock .0) neighbors forming ⌝ }
+    requires { ⌜ rowHead ≤ length (now row) ⌝ }
+    ensures { λ _. ⌜ now (row .exit) ≡ withHead (now (row .entry)) (clock .0) neighbors forming ⌝ }
 {
     row[0] = clock.0;
     row[1] = neighbors as u32;

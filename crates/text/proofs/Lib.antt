@@ -1,3 +1,2 @@
 -- Laws of text.
--- Assumes nothing.
 pub mod TextLaws

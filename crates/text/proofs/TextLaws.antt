@@ -1,5 +1,4 @@
 -- Laws of text: pouring part by part, what poured bytes leave of those lent, and decimal numbers digit by digit.
--- Assumes nothing.
 use Prim.Native.Nat.{ℕ, zero, suc, _+_, _/_, _%_, _^_, _≤_, _<_}
 use native.Mathlib.Nat.{add-zero, mod-eq-of-lt}
 use native.Mathlib.Numerals.{add-one}

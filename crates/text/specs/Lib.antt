@@ -1,3 +1,2 @@
 -- Text in lent bytes.
--- Assumes nothing: these are definitions.
 pub mod Text

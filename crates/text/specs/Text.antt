@@ -1,5 +1,4 @@
 -- Text in ASCII: bytes poured into lent bytes one after the other, as far as they fit, and decimal numbers.
--- Assumes nothing: these are definitions.
 use Prim.Native.Nat.{ℕ, zero, suc, _+_, _/_, _%_}
 use mathlib.Core.Bool.{cond}
 use mathlib.Core.List.{List, [], _∷_, _++_}

@@ -1,5 +1,4 @@
 -- `answers::number` meets its contract: what the answer says, by SaidFields.antt.
--- Assumes nothing.
 use mathlib.Core.Path.{sym, _∙_}
 use Rattle.answers.proofs.SaidFields.{done-number, refused-number}
 use borrow.Author.Needs.{needs}

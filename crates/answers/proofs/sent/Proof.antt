@@ -1,5 +1,4 @@
 -- `answers::sent` meets its contract: what the answer says, by SaidFields.antt.
--- Assumes nothing.
 use mathlib.Core.Path.{sym, ap, _∙_}
 use lib.Count.{ones}
 use Rattle.answers.proofs.SaidFields.{done-set, refused-set}

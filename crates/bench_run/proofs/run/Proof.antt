@@ -1,5 +1,4 @@
 -- `bench_run::run` meets its contract: the listing's length is known before anything is written.
--- Assumes nothing.
 use Rattle.bench_run.proofs.PlotLaws.{run-no-room, run-room}
 use borrow.Author.Needs.{needs}
 use Rattle.bench_run.proofs.run.Statement.{statement}

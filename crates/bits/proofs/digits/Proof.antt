@@ -1,5 +1,4 @@
 -- `bits::digits` meets its contract: the shift of 1 is a power of two.
--- Assumes nothing.
 use Prim.Native.Nat.{ℕ, _/_, _%_, _^_}
 use native.Mathlib.Omega.{arith}
 use mathlib.Core.Path.{ap}

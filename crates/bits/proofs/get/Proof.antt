@@ -1,5 +1,4 @@
 -- `bits::get` meets its contract: the field is cut out of the eight bytes from its first on, or read byte by byte near the end.
--- Assumes nothing.
 use Prim.Native.Nat.{ℕ, _+_, _-_, _*_, _/_, _%_, _^_}
 use native.Mathlib.Omega.{arith}
 use mathlib.Core.Path.{_≡_, ap, _∙_}

@@ -1,5 +1,5 @@
 -- `bits::get_by_bytes` meets its contract. The invariant: the value is the field of the bits read so far.
--- The measure is how many bits are left. Assumes nothing.
+-- The measure is how many bits are left.
 use Prim.Native.Nat.{_+_, _-_, _*_, _/_, _%_, _^_, _≤_}
 use native.Mathlib.Omega.{arith}
 use mathlib.Core.Path.{_≡_, sym, ap, _∙_}

@@ -1,5 +1,5 @@
 -- `bits::get_inside` meets its contract. The invariant (`Seen`): the first values are got, and the 64 bits looked at hold the next field or are used up.
--- The measure is how many fields are left. Assumes nothing.
+-- The measure is how many fields are left.
 use Prim.Native.Nat.{_-_}
 use native.Mathlib.Omega.{arith}
 use mathlib.Core.Logic.{⊎-elim}

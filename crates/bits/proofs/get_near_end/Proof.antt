@@ -1,5 +1,5 @@
 -- `bits::get_near_end` meets its contract. The invariant: the first k values are read, the others are as they were, and the place is behind them.
--- The measure is how many are left. Assumes nothing.
+-- The measure is how many are left.
 use Prim.Native.Nat.{ℕ, _+_, _-_, _≤_, _<_}
 use native.Mathlib.Omega.{arith}
 use mathlib.Core.Path.{_≡_, refl, ap, ap₂, _∙_}

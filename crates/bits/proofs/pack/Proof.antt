@@ -1,5 +1,5 @@
 -- `bits::pack` meets its contract. The invariant (`Packing`): the fields so far are the full numbers and the bits held.
--- The measure is how many fields are left. Assumes nothing.
+-- The measure is how many fields are left.
 use Prim.Native.Nat.{ℕ, _+_, _-_, _%_, _≤_, _<_}
 use native.Mathlib.Nat.{lt-of-lt-of-le}
 use native.Mathlib.Omega.{arith}

@@ -1,5 +1,4 @@
 -- `bits::put` meets its contract: 32 bits are four bytes, at any place.
--- Assumes nothing.
 use Prim.Native.Nat.{ℕ, _<_}
 use native.Mathlib.Omega.{arith}
 use mathlib.Core.Path.{_≡_, ap₂, _∙_}

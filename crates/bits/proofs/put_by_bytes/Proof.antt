@@ -1,5 +1,5 @@
 -- `bits::put_by_bytes` meets its contract. The invariant: the bits written so far stand over the bits at entry.
--- The measure is how many bits are left. Assumes nothing.
+-- The measure is how many bits are left.
 use Prim.Native.Nat.{ℕ, _+_, _-_, _/_, _%_, _^_, _≤_}
 use native.Mathlib.Omega.{arith}
 use mathlib.Core.Path.{_≡_, refl, ap, _∙_}

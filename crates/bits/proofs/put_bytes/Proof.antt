@@ -1,5 +1,4 @@
 -- `bits::put_bytes` meets its contract: inside a byte, its bits before the place are written where they stand.
--- Assumes nothing.
 use Prim.Native.Nat.{ℕ, _+_, _-_, _*_, _/_, _%_, _^_, _<_}
 use native.Mathlib.Omega.{arith}
 use mathlib.Core.Path.{_≡_, ap, ap₂, _∙_}

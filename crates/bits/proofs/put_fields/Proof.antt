@@ -1,5 +1,4 @@
 -- `bits::put_fields` meets its contract: the bits of the fields are those of what they are packed into.
--- Assumes nothing.
 use mathlib.Core.Path.{sym, ap, _∙_}
 use borrow.Author.Needs.{needs}
 use Rattle.bits.specs.Bits.{written}

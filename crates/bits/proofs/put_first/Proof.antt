@@ -1,5 +1,4 @@
 -- `bits::put_first` meets its contract: one byte is spliced.
--- Assumes nothing.
 use Prim.Native.Nat.{ℕ}
 use native.Mathlib.Nat.{mod-lt}
 use native.Mathlib.Omega.{arith}

@@ -1,5 +1,4 @@
 -- `bits::put_long` meets its contract: a number of more than 32 bits is put in two parts.
--- Assumes nothing.
 use Prim.Native.Nat.{ℕ, _+_, _-_, _/_, _%_, _^_}
 use native.Mathlib.Omega.{arith}
 use mathlib.Core.List.{List}

@@ -1,5 +1,5 @@
 -- `bits::put_packed` meets its contract. The invariant: the first numbers are put, end to end.
--- The measure is how many numbers are left. Assumes nothing.
+-- The measure is how many numbers are left.
 use Prim.Native.Nat.{ℕ, _+_, _-_, _*_, _≤_}
 use native.Mathlib.Omega.{arith}
 use mathlib.Core.Path.{_≡_, refl, sym, ap, _∙_}

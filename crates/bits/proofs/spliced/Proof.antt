@@ -1,5 +1,4 @@
 -- `bits::spliced` meets its contract: nothing is shifted out of the sum of high part, new bits and low part.
--- Assumes nothing.
 use Prim.Native.Nat.{_-_}
 use native.Mathlib.Nat.{lt-trans}
 use native.Mathlib.Omega.{arith}

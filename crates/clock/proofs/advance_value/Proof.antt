@@ -1,5 +1,4 @@
 -- `clock::advance_value` meets its contract: the move was accepted, or refused.
--- Assumes nothing.
 use borrow.Author.Needs.{needs}
 use Rattle.clock.proofs.AdvanceLaws.{advance-to, advance-end}
 use Rattle.clock.proofs.advance_value.Statement.{statement}

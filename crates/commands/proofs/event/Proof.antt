@@ -1,5 +1,4 @@
 -- `commands::event` meets its contract: each return is one law of CommandLaws.antt.
--- Assumes nothing.
 use Rattle.commands.proofs.CommandLaws.{named-unfit, named-up, named-down, named-receive, named-none}
 use Rattle.commands.proofs.event.Statement.{statement}
 use Rattle.commands.proofs.event.Tie as tie

@@ -1,5 +1,4 @@
 -- `commands::head` meets its contract: each return is one law of CommandLaws.antt.
--- Assumes nothing.
 use mathlib.Core.Path.{ap, _∙_}
 use borrow.Author.Needs.{needs}
 use Rattle.commands.specs.Commands.{inRange, numberOf}

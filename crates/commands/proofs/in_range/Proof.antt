@@ -1,5 +1,4 @@
 -- `commands::in_range` meets its contract: each return is one law of CommandLaws.antt.
--- Assumes nothing.
 use Rattle.commands.proofs.CommandLaws.{range-is, range-none}
 use Rattle.commands.proofs.in_range.Statement.{statement}
 use Rattle.commands.proofs.in_range.Tie as tie

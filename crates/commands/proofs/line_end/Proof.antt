@@ -1,5 +1,4 @@
 -- `commands::line_end` meets its contract. The invariant: what is counted from k on is the rest of the answer; the measure: the bytes left.
--- Assumes nothing.
 use Prim.Native.Nat.{_-_}
 use borrow.Author.Needs.{needs}
 use lib.ListN.{length}

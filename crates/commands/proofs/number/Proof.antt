@@ -1,5 +1,4 @@
 -- `commands::number` meets its contract: numberOf goes by the length, and so does the code.
--- Assumes nothing.
 use mathlib.Core.Path.{_∙_}
 use borrow.Author.Needs.{needs}
 use Rattle.commands.proofs.NumberLaws.{number-one, number-two, number-other}

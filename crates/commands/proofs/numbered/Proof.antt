@@ -1,5 +1,4 @@
 -- `commands::numbered` meets its contract: each return is one law of CommandLaws.antt.
--- Assumes nothing.
 use mathlib.Core.Path.{sym, _∙_}
 use borrow.Author.Needs.{needs}
 use lib.Seq.{length-take-le}

@@ -1,5 +1,4 @@
 -- `commands::one_digit` meets its contract: each return is one law of NumberLaws.antt.
--- Assumes nothing.
 use mathlib.Core.Path.{sym, _∙_}
 use borrow.Author.Needs.{needs}
 use Rattle.commands.proofs.NumberLaws.{digit-low, one-is, one-none}

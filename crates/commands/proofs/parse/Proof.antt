@@ -1,5 +1,4 @@
 -- `commands::parse` meets its contract: each return is one law of CommandLaws.antt.
--- Assumes nothing.
 use mathlib.Core.Path.{ap, _∙_}
 use borrow.Author.Needs.{needs}
 use Rattle.commands.proofs.CommandLaws.{tail, numberedOf, command-short, command-is, command-none}

@@ -1,5 +1,4 @@
 -- `commands::to_space` meets its contract. The invariant: what is counted from k on is the rest of the answer; the measure: the bytes left.
--- Assumes nothing.
 use Prim.Native.Nat.{_-_}
 use native.Mathlib.Nat.{zero-add}
 use mathlib.Core.Path.{_∙_}

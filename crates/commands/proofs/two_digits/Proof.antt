@@ -1,5 +1,4 @@
 -- `commands::two_digits` meets its contract: each return is one law of NumberLaws.antt.
--- Assumes nothing.
 use Prim.Native.Nat.{_≤_}
 use borrow.Author.Needs.{needs}
 use Rattle.commands.proofs.NumberLaws.{two-low, two-is, two-none}

@@ -16,9 +16,9 @@ use Rattle.nodeset.specs.NodeSet.{member}
 use Rattle.protocol.specs.Network.{Node}
 use Rattle.protocol.specs.Refusal.{unfit}
 use Rattle.protocol.specs.Step.{Event, up, down, receive, Local, local, carried}
-use Rattle.tables.specs.Fit.{TablesFit}
+use Rattle.tables.specs.inner.Fit.{TablesFit}
 use Rattle.tables.specs.Load.{load}
-use Rattle.tables.specs.Row.{putHeight, headed}
+use Rattle.tables.specs.Row.{putHeight, withHead}
 use Rattle.tables.specs.Tables.{Tables, nodeOf, channelOf}
 use Rattle.election.specs.StepOn.{stepAt}
 use Rattle.election.specs.declared.Decided.{Decided}
@@ -67,4 +67,4 @@ DecidesBy kind n u v row cell r =
 
 -- u's row after the event
 abbrev pub rowAfter : List ℕ → ℕ → ℕ → Decision → Height → List ℕ
-rowAfter row u v d own = headed (putHeight (putHeight row v (d .view)) u own) (d .clock .0) (d .neighbors) (d .forming)
+rowAfter row u v d own = withHead (putHeight (putHeight row v (d .view)) u own) (d .clock .0) (d .neighbors) (d .forming)

@@ -1,5 +1,4 @@
 -- `height::self_elected` meets its contract: the zero level and depth, and the negated clock.
--- Assumes nothing.
 use borrow.Author.Needs.{needs}
 use Rattle.height.proofs.self_elected.Statement.{statement}
 use Rattle.height.proofs.self_elected.Tie as tie

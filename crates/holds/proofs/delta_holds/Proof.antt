@@ -1,5 +1,4 @@
 -- `holds::delta_holds` meets its contract: the tests on the bits are those on the number.
--- Assumes nothing.
 use mir.Facts.{toZ-ofZ}
 use Rattle.protocol.specs.Holds.{deltaHolds}
 use Rattle.holds.proofs.delta_holds.Statement.{statement}

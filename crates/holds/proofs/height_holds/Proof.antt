@@ -1,5 +1,4 @@
 -- `holds::height_holds` meets its contract: a negated time is within its range already.
--- Assumes nothing.
 use mir.Facts.{toZ-ofZ}
 use mir.Syntax.{w32}
 use mir.Val.{SFits}

@@ -1,5 +1,4 @@
 -- `holds::level_holds` meets its contract: a level without a search is all zero, any other has an originator.
--- Assumes nothing.
 use native.Mathlib.Omega.{arith}
 use Rattle.holds.proofs.HoldsLaws.{level-none, level-some}
 use Rattle.holds.proofs.level_holds.Statement.{statement}

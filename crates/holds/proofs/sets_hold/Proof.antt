@@ -1,5 +1,4 @@
 -- `holds::sets_hold` meets its contract. Two words below 2 to the power n are sets of nodes 1 to n.
--- Assumes nothing.
 use native.Mathlib.Omega.{arith}
 use borrow.Author.Needs.{needs}
 use Rattle.holds.proofs.HoldsLaws.{sets-low, sets-inside, sets-outside}

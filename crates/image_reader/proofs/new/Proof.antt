@@ -1,5 +1,5 @@
 -- `image_reader::new` meets its contract: a walk of its MIR, by hand. A `Reader` is made of the slice and the number passed, in the result's local.
--- Assumes nothing. A `&[u8]` is Copy: what it owns is had twice, once for `image` at exit, and once inside the result, beside the facts of `at`.
+-- A `&[u8]` is Copy: what it owns is had twice, once for `image` at exit, and once inside the result, beside the facts of `at`.
 use mathlib.Core.Path.{refl}
 use Prim.Native.Nat.{ℕ, _<_, _^_}
 use mathlib.Core.List.{List, [], _∷_}

@@ -1,5 +1,4 @@
 -- `image_reading::decode` meets its contract: each return is one law of HeaderLaws.antt.
--- Assumes nothing.
 use Rattle.image_reading.proofs.HeaderLaws.{short, good, wrong}
 use borrow.Author.Needs.{needs}
 use Rattle.image_reading.proofs.decode.Statement.{statement}

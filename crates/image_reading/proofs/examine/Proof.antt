@@ -1,5 +1,4 @@
 -- `image_reading::examine` meets its contract: each return is one law of ExamineLaws.antt.
--- Assumes nothing.
 use native.Mathlib.Omega.{arith}
 use mathlib.Core.Path.{sym, _∙_}
 use borrow.Author.Needs.{needs}

@@ -1,5 +1,4 @@
 -- `image_reading::read_tables` meets its contract: the rows and the cells are those of the records.
--- Assumes nothing.
 use mathlib.Core.Path.{ap₂}
 use borrow.Author.Needs.{needs}
 use Rattle.tables.specs.Tables.{tables}

@@ -1,5 +1,4 @@
 -- `image_writing::image_length` meets its contract: the bits of header, nodes and channels, as bytes.
--- Assumes nothing.
 use Prim.Native.Nat.{ℕ, _+_, _*_, _/_}
 use native.Mathlib.Omega.{arith}
 use mathlib.Core.Path.{sym, ap, _∙_}

@@ -1,5 +1,4 @@
 -- `image_writing::write` meets its contract: header, nodes, channels and pad are written end to end from the first bit on.
--- Assumes nothing.
 use mathlib.Core.Path.{_∙_}
 use borrow.Author.Needs.{needs}
 use Rattle.image_writing.proofs.ImageLaws.{depth-16, counts, header-room, nodes-room, cells-room, pad-room, image-written}

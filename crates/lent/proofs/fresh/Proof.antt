@@ -1,5 +1,4 @@
 -- `lent::fresh` meets its contract, by whether the sizes are right.
--- Assumes nothing.
 use mathlib.Core.Path.{sym, _∙_}
 use borrow.Author.Needs.{needs}
 use Rattle.lent.proofs.CheckLaws.{sized-is}

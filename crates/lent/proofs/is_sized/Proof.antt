@@ -1,5 +1,4 @@
 -- `lent::is_sized` meets its contract: with n at most 16 the products fit.
--- Assumes nothing.
 use Prim.Native.Nat.{_+_, _*_}
 use native.Mathlib.Omega.{arith}
 use borrow.Author.Needs.{needs}

@@ -1,5 +1,4 @@
 -- `nodeset::contains` meets its contract. What s shares with node k alone has node k, or nothing.
--- Assumes nothing.
 use Prim.Native.Nat.{ℕ, _^_, _<_}
 use native.Mathlib.Omega.{arith}
 use mathlib.Core.Path.{_≡_, refl, sym, ap, ap₂, _∙_}

@@ -1,5 +1,4 @@
 -- `nodeset::disjoint` meets its contract: what two sets share is 0 exactly where they are apart.
--- Assumes nothing.
 use native.Mathlib.Omega.{arith}
 use Rattle.nodeset.proofs.Members.{and-apart}
 use Rattle.nodeset.proofs.disjoint.Statement.{statement}

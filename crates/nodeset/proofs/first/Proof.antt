@@ -1,5 +1,4 @@
 -- `nodeset::first` meets its contract: the lowest node stands at the bit above the trailing zeros.
--- Assumes nothing.
 use native.Mathlib.Omega.{arith}
 use lib.Count.{trailing-le}
 use Rattle.nodeset.proofs.Walk.{trailing-lowest}

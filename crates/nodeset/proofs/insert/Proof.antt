@@ -1,5 +1,4 @@
 -- `nodeset::insert` meets its contract: the set of `s | single(k)` is told by its members.
--- Assumes nothing.
 use Prim.Native.Nat.{ℕ, _^_, _<_}
 use native.Mathlib.Omega.{arith}
 use mathlib.Core.Path.{_≡_, ap, _∙_}

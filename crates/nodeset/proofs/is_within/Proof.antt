@@ -1,5 +1,4 @@
 -- `nodeset::is_within` meets its contract. Every u16 is below 2 to the power 16.
--- Assumes nothing.
 use Prim.Native.Nat.{_*_, _%_, _^_}
 use native.Mathlib.Omega.{arith}
 use mathlib.Core.Path.{_≡_, sym, ap, _∙_}

@@ -1,5 +1,4 @@
 -- `nodeset::remove` meets its contract: s without what it shares with node k alone is told by its members.
--- Assumes nothing.
 use Prim.Native.Nat.{ℕ, _-_, _^_, _<_}
 use native.Mathlib.Omega.{arith}
 use mathlib.Core.Path.{_≡_, ap, _∙_}

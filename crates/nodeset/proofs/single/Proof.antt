@@ -1,5 +1,4 @@
 -- `nodeset::single` meets its contract. The test passes one node of 1 to 16, or none.
--- Assumes nothing.
 use Prim.Native.Nat.{ℕ, zero, suc, _-_, _*_, _%_, _^_, _≤_}
 use native.Mathlib.Omega.{arith}
 use mathlib.Core.Path.{_≡_, refl, sym}

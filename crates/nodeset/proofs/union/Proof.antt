@@ -1,5 +1,4 @@
 -- `nodeset::union` meets its contract: the set of `a | b` is told by its members.
--- Assumes nothing.
 use native.Mathlib.Omega.{arith}
 use lib.Bits.{bitOr, or-lt}
 use Rattle.nodeset.specs.NodeSet.{inEither}

@@ -1,5 +1,4 @@
 -- `pairs::channel_sound` meets its contract. Past 8 messages the first test fails.
--- Assumes nothing.
 use borrow.Author.Needs.{needs}
 use Rattle.pairs.proofs.PairLaws.{channel-over, channel-test}
 use Rattle.pairs.proofs.channel_sound.Statement.{statement}
@@ -8,13 +7,13 @@ use Rattle.pairs.proofs.channel_sound.Tie as tie
 waiting-requires : tie.Need-waiting-requires
 waiting-requires c κs = search needs
 
+cast-count : tie.Need-cast-count
+cast-count c = search needs
+
 returns : tie.Need-returns
 returns c =
     let a = c .before .before .before .before .args in
     channel-over (a .n) (a .u) (a .v) (a .row .now) (a .cell .now) (c .before .waiting .result) (c .before .waiting .ensures) (c .if1 .taken)
-
-cast-count : tie.Need-cast-count
-cast-count c = search needs
 
 shared-slice-read-is-member : tie.Need-shared-slice-read-is-member
 shared-slice-read-is-member c = search needs
@@ -51,8 +50,8 @@ channel-sound-spec =
     tie.close
     (tie.spec
     waiting-requires
-    returns
     cast-count
+    returns
     shared-slice-read-is-member
     is-member-requires
     shared-slice-read-is-member-2

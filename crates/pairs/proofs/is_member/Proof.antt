@@ -1,5 +1,4 @@
 -- `pairs::is_member` meets its contract: the bits above node 16 do not count.
--- Assumes nothing.
 use mathlib.Core.Path.{_∙_}
 use borrow.Author.Needs.{needs}
 use Rattle.pairs.proofs.PairLaws.{low-member}

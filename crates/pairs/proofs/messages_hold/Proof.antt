@@ -1,5 +1,5 @@
 -- `pairs::messages_hold` meets its contract. The invariant: the whole answer is that of the messages from k on.
--- The measure is how many are left. Assumes nothing.
+-- The measure is how many are left.
 use Prim.Native.Nat.{_+_, _-_, _*_}
 use native.Mathlib.Omega.{arith}
 use mathlib.Core.Bool.{true, false}

@@ -1,5 +1,4 @@
 -- `pairs::own_sound` meets its contract: the three answers are the three parts of the test.
--- Assumes nothing.
 use borrow.Author.Needs.{needs}
 use Rattle.pairs.specs.Pair.{ownSound}
 use Rattle.pairs.proofs.own_sound.Statement.{statement}

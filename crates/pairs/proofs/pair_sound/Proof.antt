@@ -1,5 +1,4 @@
 -- `pairs::pair_sound` meets its contract, by whether u is v.
--- Assumes nothing.
 use borrow.Author.Needs.{needs}
 use borrow.Author.Tests.{eq-eqb, ne-eqb}
 use Rattle.pairs.specs.Pair.{pairSound}

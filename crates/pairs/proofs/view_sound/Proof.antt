@@ -1,5 +1,4 @@
 -- `pairs::view_sound` meets its contract, by whether v is in N.
--- Assumes nothing.
 use Prim.Native.Nat.{_+_, _-_, _*_}
 use mathlib.Core.Bool.{true, false}
 use mathlib.Core.Path.{_≡_, sym, _∙_, ap}

@@ -1,5 +1,5 @@
 -- `text::put_decimal` meets its contract: the call pours the digits before the last, and then the last goes behind them.
--- The measure is the number, which the call divides by ten. Assumes nothing.
+-- The measure is the number, which the call divides by ten.
 use Prim.Native.Nat.{ℕ, _+_, _<_}
 use native.Mathlib.Omega.{arith}
 use mathlib.Core.Path.{_≡_, ap, _∙_}

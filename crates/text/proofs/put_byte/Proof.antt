@@ -1,5 +1,4 @@
 -- `text::put_byte` meets its contract: behind the end of the bytes nothing is set.
--- Assumes nothing.
 use mathlib.Core.Path.{_≡_, refl, sym, ap, _∙_}
 use mathlib.Core.List.{[], _∷_}
 use mathlib.Core.Logic.{⊎-elim}

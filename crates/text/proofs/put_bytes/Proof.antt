@@ -1,5 +1,5 @@
 -- `text::put_bytes` meets its contract. The invariant: the first k bytes are poured, and the place is behind them.
--- The measure is how many are left. Assumes nothing.
+-- The measure is how many are left.
 use Prim.Native.Nat.{_+_, _-_, _≤_, _<_}
 use native.Mathlib.Omega.{arith}
 use mathlib.Core.Path.{_≡_, refl, ap, _∙_}

@@ -1,5 +1,4 @@
 -- `abi::reports::of_rule` meets its contract: rule A, rule P, and every other.
--- Assumes nothing.
 use mathlib.Core.Path.{_∙_}
 use Rattle.abi.proofs.ReportLaws.{adopted, propagated, bare}
 use borrow.Author.Needs.{needs}

@@ -1,5 +1,4 @@
 -- `bench_run::events::line` meets its contract: the event that the line names, on the tables and in the listing.
--- Assumes nothing.
 use Rattle.bench_run.proofs.PourLaws.{both}
 use Rattle.bench_run.proofs.LineRuns.{line-up, line-down, line-receive, line-refused, line-done}
 use borrow.Author.Needs.{needs}

@@ -1,5 +1,4 @@
 -- `bench_run::events::lines` meets its contract: line after line (LinesRun.antt), each at least one byte of the input.
--- Assumes nothing.
 use Prim.Native.Nat.{_+_, _-_}
 use native.Mathlib.Omega.{arith}
 use mathlib.Core.Path.{_≡_, refl, _∙_}

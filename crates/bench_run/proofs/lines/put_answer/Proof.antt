@@ -1,5 +1,4 @@
 -- `bench_run::lines::put_answer` meets its contract: the line of what the answer says.
--- Assumes nothing.
 use Rattle.bench_run.proofs.PourLaws.{both, finish, said-line, said-le}
 use borrow.Author.Needs.{needs}
 use Rattle.bench_run.proofs.lines.put_answer.Statement.{statement}

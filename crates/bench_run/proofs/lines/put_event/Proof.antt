@@ -1,5 +1,4 @@
 -- `bench_run::lines::put_event` meets its contract: its pieces are poured one behind the other.
--- Assumes nothing.
 use Rattle.bench_run.proofs.PourLaws.{both, then, finish, event-pieces, event-le}
 use borrow.Author.Needs.{needs}
 use Rattle.bench_run.proofs.lines.put_event.Statement.{statement}

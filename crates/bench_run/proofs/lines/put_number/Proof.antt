@@ -1,5 +1,4 @@
 -- `bench_run::lines::put_number` meets its contract: its pieces are poured one behind the other.
--- Assumes nothing.
 use native.Mathlib.Omega.{arith}
 use mathlib.Core.Path.{refl}
 use Rattle.text.proofs.TextLaws.{length-decimal-le}

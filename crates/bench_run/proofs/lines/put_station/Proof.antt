@@ -1,5 +1,4 @@
 -- `bench_run::lines::put_station` meets its contract: its pieces are poured one behind the other.
--- Assumes nothing.
 use Rattle.bench_run.proofs.PourLaws.{both, then, finish, station-pieces, station-le}
 use borrow.Author.Needs.{needs}
 use Rattle.bench_run.proofs.lines.put_station.Statement.{statement}

@@ -1,5 +1,4 @@
 -- `bench_run::plot::list` meets its contract: "bad plot", or the listing of the plot that the first line names.
--- Assumes nothing.
 use native.Mathlib.Omega.{arith}
 use mathlib.Core.Path.{sym, ap, _∙_}
 use lib.Seq.{length-take-le}

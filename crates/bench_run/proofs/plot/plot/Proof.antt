@@ -1,5 +1,4 @@
 -- `bench_run::plot::plot` meets its contract: room for sixteen nodes is room for n.
--- Assumes nothing.
 use native.Mathlib.Omega.{arith}
 use mathlib.Core.Path.{sym}
 use lib.Seq.{length-take-le}

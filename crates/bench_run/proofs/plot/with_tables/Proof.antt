@@ -1,5 +1,4 @@
 -- `bench_run::plot::with_tables` meets its contract: fresh tables, then the four parts of the listing.
--- Assumes nothing.
 use native.Mathlib.Omega.{arith}
 use mathlib.Core.Path.{_∙_}
 use Rattle.bench_run.proofs.PlotLaws.{made-fresh, plot-done}

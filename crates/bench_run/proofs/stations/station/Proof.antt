@@ -1,5 +1,4 @@
 -- `bench_run::stations::station` meets its contract: the own height's leader and the clock of its row.
--- Assumes nothing.
 use Rattle.bench_run.proofs.PourLaws.{both, finish}
 use Rattle.bench_run.proofs.StationLaws.{station-line, line-le}
 use borrow.Author.Needs.{needs}

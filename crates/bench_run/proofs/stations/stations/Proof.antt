@@ -1,5 +1,4 @@
 -- `bench_run::stations::stations` meets its contract: the lines of the nodes so far have been poured.
--- Assumes nothing.
 use Prim.Native.Nat.{suc, _-_}
 use native.Mathlib.Omega.{arith}
 use mathlib.Core.List.{[]}
@@ -7,7 +6,7 @@ use mathlib.Core.Path.{ap, _∙_}
 use lib.ListN.{length}
 use Rattle.text.proofs.TextLaws.{length-poured}
 use Rattle.tables.specs.Tables.{tables}
-use Rattle.bench_run.specs.OnTables.{stationLineOn, stationLinesOn}
+use Rattle.bench_run.specs.inner.OnTables.{stationLineOn, stationLinesOn}
 use Rattle.bench_run.proofs.PourLaws.{both}
 use Rattle.bench_run.proofs.StationLaws.{Printed, printed-none, printed-next, printed-all}
 use Rattle.protocol.specs.Network.{Node}

@@ -1,5 +1,4 @@
 -- `bits::words::cut` meets its contract: what a shift to the left drops is above the bits looked for.
--- Assumes nothing.
 use Prim.Native.Nat.{_-_, _/_, _^_, _≤_}
 use native.Mathlib.Nat.{mod-lt, lt-of-lt-of-le}
 use native.Mathlib.Omega.{arith}

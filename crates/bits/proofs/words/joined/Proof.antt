@@ -1,5 +1,4 @@
 -- `bits::words::joined` meets its contract: nothing is shifted out.
--- Assumes nothing.
 use Prim.Native.Nat.{ℕ, _+_, _-_, _*_, _%_, _^_, _<_}
 use native.Mathlib.Nat.{mod-lt, lt-of-lt-of-le, le-of-eq}
 use native.Mathlib.Omega.{arith}

@@ -1,5 +1,5 @@
 -- `bits::words::load` meets its contract. The invariant: the value is that of the bytes read so far.
--- The measure is how many bytes are left. Assumes nothing.
+-- The measure is how many bytes are left.
 use Prim.Native.Nat.{_+_, _-_, _*_, _%_, _^_, _≤_}
 use native.Mathlib.Omega.{arith}
 use mathlib.Core.Path.{_≡_, sym, ap, _∙_}

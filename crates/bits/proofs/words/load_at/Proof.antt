@@ -1,5 +1,4 @@
 -- `bits::words::load_at` meets its contract: eight bytes without their first bits, and the first bits of the ninth.
--- Assumes nothing.
 use Prim.Native.Nat.{ℕ, _+_, _-_, _*_, _/_, _%_, _^_}
 use native.Mathlib.Omega.{arith}
 use mathlib.Core.Path.{_≡_, ap₂, _∙_}

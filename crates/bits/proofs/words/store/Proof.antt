@@ -1,5 +1,5 @@
 -- `bits::words::store` meets its contract. The invariant: the bytes written so far stand over the bits at entry.
--- The measure is how many bytes are left. Assumes nothing.
+-- The measure is how many bytes are left.
 use Prim.Native.Nat.{_+_, _-_, _*_, _/_, _^_, _≤_}
 use native.Mathlib.Omega.{arith}
 use mathlib.Core.Path.{_≡_, refl, _∙_}

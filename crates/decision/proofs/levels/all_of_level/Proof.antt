@@ -1,5 +1,4 @@
 -- `decision::levels::all_of_level` meets its contract. The loop's invariant: all nodes above w have passed; the measure is w.
--- Assumes nothing.
 use borrow.Author.Tests.{not-true, not-false}
 use native.Mathlib.Omega.{arith}
 use mathlib.Core.Path.{sym, _∙_}

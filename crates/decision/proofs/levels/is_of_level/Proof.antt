@@ -1,5 +1,4 @@
 -- `decision::levels::is_of_level` meets its contract: a node outside the set passes, one inside by its level.
--- Assumes nothing.
 use borrow.Author.Needs.{needs}
 use mathlib.Core.Path.{_≡_, sym, _∙_}
 use mathlib.Core.Bool.{true, false}

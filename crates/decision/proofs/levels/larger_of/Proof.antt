@@ -1,5 +1,4 @@
 -- `decision::levels::larger_of` meets its contract: the test is the one of `larger`.
--- Assumes nothing.
 use borrow.Author.Needs.{needs}
 use Rattle.protocol.specs.Rules.{larger}
 use Rattle.decision.proofs.levels.larger_of.Statement.{statement}

@@ -1,5 +1,4 @@
 -- `decision::levels::largest_level` meets its contract. The loop's invariant: the level is the largest below node w; the measure is what is left.
--- Assumes nothing.
 use Prim.Native.Nat.{ℕ, zero, suc, _+_, _-_, _≤_}
 use borrow.Author.Needs.{needs}
 use native.Mathlib.Omega.{arith}

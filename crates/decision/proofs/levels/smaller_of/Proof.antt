@@ -1,5 +1,4 @@
 -- `decision::levels::smaller_of` meets its contract: the test on the bits is the one on the numbers.
--- Assumes nothing.
 use mir.Syntax.{w32}
 use mir.Facts.{toZ-ofZ}
 use Rattle.height.proofs.Signed.{test-lt}

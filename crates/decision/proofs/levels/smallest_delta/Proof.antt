@@ -1,5 +1,5 @@
 -- `decision::levels::smallest_delta` meets its contract. The loop's invariant: the depths of the w nodes left, beside the least so far where one
--- was found, have the smallest depth of all; the measure is w. Assumes nothing.
+-- was found, have the smallest depth of all; the measure is w.
 use Prim.Native.Nat.{ℕ, suc, _-_, _<_, _≤_}
 use borrow.Author.Needs.{needs}
 use native.Mathlib.Omega.{arith}

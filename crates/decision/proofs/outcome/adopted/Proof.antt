@@ -1,5 +1,4 @@
 -- `decision::outcome::adopted` meets its contract: one more than w's depth is in range exactly where that is below the greatest.
--- Assumes nothing.
 use borrow.Author.Needs.{needs}
 use mir.Syntax.{w32}
 use mir.Val.{SFits}

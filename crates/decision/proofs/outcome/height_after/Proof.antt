@@ -1,5 +1,4 @@
 -- `decision::outcome::height_after` meets its contract: the height of the rule at hand, which A and P alone can refuse.
--- Assumes nothing.
 use Prim.Native.Nat.{ℕ}
 use borrow.Author.Needs.{needs}
 use denote.Enum.Declared.{tagOf}

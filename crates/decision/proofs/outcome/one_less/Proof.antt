@@ -1,5 +1,4 @@
 -- `decision::outcome::one_less` meets its contract: one less than a depth above the least fits.
--- Assumes nothing.
 use mathlib.Core.Path.{_≡_, ap, _∙_}
 use lib.IntN.{ℤ, pos, predℤ, _-ℤ_, -ℤ-one}
 use mir.Syntax.{w32}

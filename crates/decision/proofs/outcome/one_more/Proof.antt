@@ -1,5 +1,4 @@
 -- `decision::outcome::one_more` meets its contract: one more than a depth below the greatest fits.
--- Assumes nothing.
 use mathlib.Core.Path.{_≡_, ap, _∙_}
 use lib.IntN.{ℤ, pos, sucℤ, _+ℤ_, +ℤ-one}
 use mir.Syntax.{w32}

@@ -1,5 +1,4 @@
 -- `decision::outcome::propagated` meets its contract: one less than the smallest depth is in range exactly where that is above the least.
--- Assumes nothing.
 use borrow.Author.Needs.{needs}
 use mir.Syntax.{w32}
 use mir.Val.{SFits}

@@ -1,5 +1,4 @@
 -- `decision::outcome::reflected` meets its contract: v's level is the view's, and u's own pair is kept.
--- Assumes nothing.
 use borrow.Author.Needs.{needs}
 use mathlib.Core.Path.{_∙_}
 use Rattle.basics.proofs.FunctionsLaws.{update-at}

@@ -1,5 +1,4 @@
 -- `decision::outcome::sent_to` meets its contract: U and R send to v alone, Q and I to nobody, every other rule to all of both sets.
--- Assumes nothing.
 use Prim.Native.Nat.{ℕ}
 use borrow.Author.Needs.{needs}
 use denote.Enum.Declared.{tagOf}

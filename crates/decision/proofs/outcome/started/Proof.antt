@@ -1,5 +1,4 @@
 -- `decision::outcome::started` meets its contract: u's own pair is kept.
--- Assumes nothing.
 use borrow.Author.Needs.{needs}
 use mathlib.Core.Path.{_∙_}
 use Rattle.decision.proofs.outcome.started.Statement.{statement}

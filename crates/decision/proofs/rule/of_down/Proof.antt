@@ -1,5 +1,4 @@
 -- `decision::rule::of_down` meets its contract: a set of nodes 1 to n is the number 0 exactly where no node is in it.
--- Assumes nothing.
 use Prim.Native.Nat.{ℕ, _<_, _^_}
 use borrow.Author.Needs.{needs}
 use borrow.Author.Tests.{not-true}

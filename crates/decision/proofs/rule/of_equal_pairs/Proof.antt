@@ -1,5 +1,4 @@
 -- `decision::rule::of_equal_pairs` meets its contract: the tests are those of `equalPairsRule`, and v's level is the view's.
--- Assumes nothing.
 use borrow.Author.Needs.{needs}
 use Rattle.protocol.specs.Rules.{equalPairsRule}
 use Rattle.basics.proofs.FunctionsLaws.{update-at}

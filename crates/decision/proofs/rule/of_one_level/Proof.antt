@@ -1,5 +1,4 @@
 -- `decision::rule::of_one_level` meets its contract: the tests are those of `oneLevelRule`.
--- Assumes nothing.
 use Rattle.protocol.specs.Rules.{oneLevelRule}
 use Rattle.decision.proofs.rule.of_one_level.Statement.{statement}
 use Rattle.decision.proofs.rule.of_one_level.Tie as tie

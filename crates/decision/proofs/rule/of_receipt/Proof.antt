@@ -1,5 +1,4 @@
 -- `decision::rule::of_receipt` meets its contract: the tests are those of `receiptRule`, and v's pair is the view's.
--- Assumes nothing.
 use borrow.Author.Needs.{needs}
 use Rattle.protocol.specs.Rules.{receiptRule}
 use Rattle.basics.proofs.FunctionsLaws.{update-at}

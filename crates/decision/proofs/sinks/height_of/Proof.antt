@@ -1,5 +1,4 @@
 -- `decision::sinks::height_of` meets its contract: v's view is the one passed, every other is the row's.
--- Assumes nothing.
 use borrow.Author.Needs.{needs}
 use mathlib.Core.Path.{sym, ap, _∙_}
 use Rattle.basics.specs.Functions.{update}

@@ -1,5 +1,4 @@
 -- `decision::sinks::is_above` meets its contract: the two comparisons are those of `above`.
--- Assumes nothing.
 use borrow.Author.Needs.{needs}
 use Rattle.decision.proofs.sinks.is_above.Statement.{statement}
 use Rattle.decision.proofs.sinks.is_above.Tie as tie

@@ -1,5 +1,4 @@
 -- `decision::sinks::is_sink` meets its contract. The loop's invariant: all nodes above w are above; the measure is w.
--- Assumes nothing.
 use borrow.Author.Needs.{needs}
 use borrow.Author.Tests.{not-true, not-false}
 use native.Mathlib.Omega.{arith}

@@ -1,5 +1,4 @@
 -- `election::events::are_named` meets its contract: the tests are those of `misnamed`.
--- Assumes nothing.
 use mathlib.Core.Path.{refl}
 use Rattle.election.proofs.events.are_named.Statement.{statement}
 use Rattle.election.proofs.events.are_named.Tie as tie

@@ -1,5 +1,4 @@
 -- `election::events::decide` meets its contract: each kind is decided by u's row, a receipt by the cell too.
--- Assumes nothing.
 use mathlib.Core.Path.{refl}
 use borrow.Author.Needs.{needs}
 use Rattle.election.proofs.events.decide.Statement.{statement}

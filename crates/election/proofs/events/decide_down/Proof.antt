@@ -1,5 +1,4 @@
 -- `election::events::decide_down` meets its contract: refused with 5 or 7, or ready with v in neither set and no view of it.
--- Assumes nothing.
 use borrow.Author.Needs.{needs}
 use borrow.Author.Tests.{not-true, not-false}
 use Rattle.election.proofs.DecideLaws.{neighbors-readable, forming-readable, left-lt, down-refused, down-late, down-ready}

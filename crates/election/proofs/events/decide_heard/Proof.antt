@@ -1,5 +1,4 @@
 -- `election::events::decide_heard` meets its contract: refused with 7, or ready with v in N alone and its view stored.
--- Assumes nothing.
 use borrow.Author.Needs.{needs}
 use Rattle.election.proofs.DecideLaws.{neighbors-readable, forming-readable, heard-late, heard-ready}
 use Rattle.election.proofs.events.decide_heard.Statement.{statement}

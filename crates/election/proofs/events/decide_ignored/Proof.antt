@@ -1,5 +1,4 @@
 -- `election::events::decide_ignored` meets its contract: refused with 7, or ready with the clock moved and nothing else.
--- Assumes nothing.
 use borrow.Author.Needs.{needs}
 use Rattle.election.proofs.DecideLaws.{neighbors-readable, forming-readable, ignored-late, ignored-ready}
 use Rattle.election.proofs.events.decide_ignored.Statement.{statement}

@@ -1,5 +1,4 @@
 -- `election::events::decide_receipt` meets its contract: refused with 6, or heard, or ignored.
--- Assumes nothing.
 use native.Mathlib.Omega.{arith}
 use mathlib.Core.Path.{sym, _∙_}
 use borrow.Author.Needs.{needs}

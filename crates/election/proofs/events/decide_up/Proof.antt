@@ -1,5 +1,4 @@
 -- `election::events::decide_up` meets its contract: refused with 4 or 7, or ready with v in the forming set.
--- Assumes nothing.
 use borrow.Author.Needs.{needs}
 use Rattle.election.proofs.DecideLaws.{neighbors-readable, forming-readable, up-refused, up-late, up-ready}
 use Rattle.election.proofs.events.decide_up.Statement.{statement}

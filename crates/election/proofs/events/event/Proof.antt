@@ -1,5 +1,4 @@
 -- `election::events::event` meets its contract: refused with 3, or as it is decided, refused or finished.
--- Assumes nothing.
 use mathlib.Core.Bool.{not}
 use mathlib.Core.Path.{sym, ap, subst, _∙_}
 use borrow.Author.Needs.{needs}

@@ -1,5 +1,4 @@
 -- `election::events::is_up` meets its contract: a node is in one of two sets.
--- Assumes nothing.
 use borrow.Author.Needs.{needs}
 use Rattle.election.proofs.events.is_up.Statement.{statement}
 use Rattle.election.proofs.events.is_up.Tie as tie

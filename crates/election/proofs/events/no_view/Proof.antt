@@ -1,5 +1,4 @@
 -- `election::events::no_view` meets its contract.
--- Assumes nothing.
 use mathlib.Core.Path.{refl}
 use native.Mathlib.Omega.{arith}
 use Rattle.height.specs.Words.{Negated}

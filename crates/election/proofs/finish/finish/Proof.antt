@@ -1,5 +1,4 @@
 -- `election::finish::finish` meets its contract: 8, 9, or everything written; each return is one law of FinishLaws.antt.
--- Assumes nothing.
 use borrow.Author.Needs.{needs}
 use Rattle.election.proofs.FinishLaws.{other-side, new-negated, wordy, ready-takes, ready-silenced, ready-lt, ends-deep, ends-full, ends-done}
 use Rattle.election.proofs.WriteLaws.{room-cleared, sent-cleared}

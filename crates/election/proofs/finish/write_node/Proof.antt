@@ -1,5 +1,4 @@
 -- `election::finish::write_node` meets its contract: the part that is lent is u's row.
--- Assumes nothing.
 use mathlib.Core.Path.{refl, ap, _∙_}
 use lib.ListN.{length}
 use borrow.Author.Needs.{needs}

@@ -1,5 +1,4 @@
 -- `election::finish::write_row` meets its contract: the writes are those of `rowAfter`, in its order.
--- Assumes nothing.
 use borrow.Author.Needs.{needs}
 use Rattle.election.proofs.finish.write_row.Statement.{statement}
 use Rattle.election.proofs.finish.write_row.Tie as tie

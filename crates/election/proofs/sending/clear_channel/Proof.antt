@@ -1,5 +1,4 @@
 -- `election::sending::clear_channel` meets its contract: each kind of event changes one cell at most, the pair u, v or the pair v, u.
--- Assumes nothing.
 use mathlib.Core.Path.{refl, ap, _∙_}
 use lib.ListN.{length}
 use borrow.Author.Needs.{needs}

@@ -1,5 +1,5 @@
 -- `election::sending::has_room` meets its contract. The invariant: all nodes above w have room, so the answer for n is the answer for w.
--- The measure is w. Assumes nothing.
+-- The measure is w.
 use mathlib.Core.Path.{sym, _∙_}
 use native.Mathlib.Omega.{arith}
 use borrow.Author.Tests.{not-true, not-false}

@@ -1,5 +1,4 @@
 -- `election::sending::has_room_for` meets its contract: the set, the cell and its count are those of `roomFor`.
--- Assumes nothing.
 use borrow.Author.Needs.{needs}
 use Rattle.election.specs.inner.Cells.{roomFor}
 use Rattle.election.proofs.sending.has_room_for.Statement.{statement}

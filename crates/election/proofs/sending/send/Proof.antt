@@ -1,5 +1,4 @@
 -- `election::sending::send` meets its contract: the part that is lent is the cell of the pair u, w.
--- Assumes nothing.
 use mathlib.Core.Path.{refl, ap, _∙_}
 use lib.ListN.{length}
 use borrow.Author.Needs.{needs}

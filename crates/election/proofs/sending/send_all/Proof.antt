@@ -1,5 +1,5 @@
 -- `election::sending::send_all` meets its contract. The invariant: sending to the nodes left leaves the cells that sending to all of `to` leaves.
--- The measure is the set that is left. Assumes nothing.
+-- The measure is the set that is left.
 use mathlib.Core.Path.{sym, _∙_}
 use borrow.Author.Needs.{needs}
 use Rattle.election.proofs.SendLaws.{Sending, sending-start, sending-done, sending-node, sending-room, sending-less, sending-next}

@@ -1,5 +1,4 @@
 -- `height::Time::after` meets its contract: each way out is one case of the clock's move.
--- Assumes nothing.
 use borrow.Author.Needs.{needs}
 use native.Mathlib.Omega.{arith}
 use mathlib.Core.Path.{sym}

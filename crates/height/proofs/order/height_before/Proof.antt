@@ -1,5 +1,4 @@
 -- `height::order::height_before` meets its contract: what the answer of `of_heights` says.
--- Assumes nothing.
 use borrow.Author.Needs.{needs}
 use Rattle.height.proofs.Compare.{is-less}
 use Rattle.height.proofs.order.height_before.Statement.{statement}

@@ -1,5 +1,4 @@
 -- `height::order::level_before` meets its contract: what the answer of `of_levels` says.
--- Assumes nothing.
 use borrow.Author.Needs.{needs}
 use Rattle.height.proofs.Compare.{is-less}
 use Rattle.height.proofs.order.level_before.Statement.{statement}

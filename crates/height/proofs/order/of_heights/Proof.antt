@@ -1,5 +1,4 @@
 -- `height::order::of_heights` meets its contract: the four parts of the heights, one after the other.
--- Assumes nothing.
 use borrow.Author.Needs.{needs}
 use mathlib.Core.Path.{_≡_, _∙_, sym}
 use mathlib.Core.List.{[], _∷_}

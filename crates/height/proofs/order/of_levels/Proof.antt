@@ -1,5 +1,4 @@
 -- `height::order::of_levels` meets its contract: the three parts of the levels, one after the other.
--- Assumes nothing.
 use borrow.Author.Needs.{needs}
 use mathlib.Core.Path.{sym}
 use Rattle.height.proofs.Compare.{order-levels}

@@ -1,5 +1,4 @@
 -- `height::order::of_numbers` meets its contract: each way out is one case of the order of two keys of one number.
--- Assumes nothing.
 use mathlib.Core.Bool.{Bool}
 use mathlib.Core.Path.{_≡_}
 use lib.Signed.{ltZ}

@@ -1,5 +1,4 @@
 -- `height::order::of_pairs` meets its contract: the two parts of the pairs, one after the other.
--- Assumes nothing.
 use borrow.Author.Needs.{needs}
 use mathlib.Core.Path.{refl, sym}
 use mir.Syntax.{w64}

@@ -1,5 +1,4 @@
 -- `height::order::of_words` meets its contract: the order of two numbers, neither below 0.
--- Assumes nothing.
 use borrow.Author.Needs.{needs}
 use Rattle.height.proofs.Compare.{order-read}
 use Rattle.height.proofs.order.of_words.Statement.{statement}

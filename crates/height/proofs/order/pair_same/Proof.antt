@@ -1,5 +1,4 @@
 -- `height::order::pair_same` meets its contract: what the answer of `of_pairs` says.
--- Assumes nothing.
 use borrow.Author.Needs.{needs}
 use Rattle.height.proofs.Compare.{is-equal}
 use Rattle.height.proofs.order.pair_same.Statement.{statement}

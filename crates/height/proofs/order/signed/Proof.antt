@@ -1,5 +1,4 @@
 -- `height::order::signed` meets its contract: a word is below 2 ^ 63.
--- Assumes nothing.
 use borrow.Author.Needs.{needs}
 use native.Mathlib.Omega.{arith}
 use mir.Syntax.{w64}

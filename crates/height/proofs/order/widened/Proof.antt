@@ -1,5 +1,4 @@
 -- `height::order::widened` meets its contract: a number of 32 bits fits 64.
--- Assumes nothing.
 use mir.Syntax.{w64}
 use mir.Facts.{toZ-ofZ}
 use Rattle.height.proofs.Signed.{sfits-wide, read-back}

@@ -1,5 +1,4 @@
 -- `height::words::delta_of` meets its contract: below 2 ^ 31 the word itself, from there the word less 2 ^ 32.
--- Assumes nothing.
 use borrow.Author.Needs.{needs}
 use borrow.Author.Tests.{lt-ltb, le-ltb}
 use native.Mathlib.Omega.{arith}

@@ -1,5 +1,4 @@
 -- `height::words::delta_word` meets its contract: a depth from 0 up is its own word, one below 0 counts down from 2 ^ 32 - 1.
--- Assumes nothing.
 use native.Mathlib.Omega.{arith}
 use Prim.Native.Nat.{ℕ, _-_, _<_, _^_}
 use mathlib.Core.Path.{_≡_, ap, sym, _∙_}

@@ -1,5 +1,4 @@
 -- `height::words::load_height` meets its contract: seven words in bounds, one field each.
--- Assumes nothing.
 use borrow.Author.Needs.{needs}
 use Prim.Native.Nat.{_+_}
 use mir.Syntax.{w32}

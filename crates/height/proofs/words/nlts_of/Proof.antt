@@ -1,5 +1,4 @@
 -- `height::words::nlts_of` meets its contract: 0 less a word fits 64 bits.
--- Assumes nothing.
 use borrow.Author.Needs.{needs}
 use native.Mathlib.Omega.{arith}
 use mathlib.Core.Path.{_≡_}

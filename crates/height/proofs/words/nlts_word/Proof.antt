@@ -1,5 +1,4 @@
 -- `height::words::nlts_word` meets its contract: 0 less a negated time is its size, a word.
--- Assumes nothing.
 use borrow.Author.Needs.{needs}
 use native.Mathlib.Omega.{arith}
 use mathlib.Core.Path.{_≡_, ap, sym, _∙_}

@@ -1,5 +1,4 @@
 -- `height::words::store_height` meets its contract: seven words in bounds, one field each.
--- Assumes nothing.
 use borrow.Author.Needs.{needs}
 use native.Mathlib.Omega.{arith}
 use native.Mathlib.Numerals.{towards-suc}

@@ -1,5 +1,4 @@
 -- `image::cells::get_cell` meets its contract: the count is set before the messages.
--- Assumes nothing.
 use Prim.Native.Nat.{ℕ, _+_, _*_}
 use native.Mathlib.Omega.{arith}
 use mathlib.Core.Path.{_≡_, sym, ap, _∙_}
@@ -75,7 +74,7 @@ same-length : tie.Need-same-length
 same-length c =
     let s = c .before .before .before .before .before .before .before in
     let a = s .args in
-    ap length (returns c .0) ∙ length-cell-from (a .depth) (unpacked (a .bytes .now)) (a .at) (s .pre .2) ∙ sym (s .pre .1)
+    ap length (returns c .0) ∙ length-cell-from (a .depth) (unpacked (a .bytes .now)) (a .at) ∙ sym (s .pre .1)
 
 pub get-cell-spec : {M : Type 1} → statement M
 get-cell-spec =

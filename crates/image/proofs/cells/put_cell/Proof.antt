@@ -1,9 +1,11 @@
 -- `image::cells::put_cell` meets its contract: the count and the messages are put end to end.
--- Assumes nothing.
+use Prim.Native.Nat.{_-_}
 use native.Mathlib.Omega.{arith}
-use mathlib.Core.Path.{refl}
+use mathlib.Core.Path.{_≡_, refl, _∙_}
+use lib.ListN.{length, take, drop}
 use Rattle.image.specs.Widths.{messageWidth}
-use Rattle.image.proofs.PartCalls.{cell-put}
+use Rattle.image.proofs.PartCalls.{rest-length, cell-put}
+use Rattle.image.proofs.PartTurns.{messages}
 use borrow.Author.Needs.{needs}
 use Rattle.image.proofs.cells.put_cell.Statement.{statement}
 use Rattle.image.proofs.cells.put_cell.Tie as tie
@@ -14,40 +16,47 @@ shared-slice-read-c c = search needs
 cast-c : tie.Need-cast-c
 cast-c c = search needs
 
+add-w : tie.Need-add-w
+add-w c = search needs
+
 shared-slice-read-put : tie.Need-shared-slice-read-put
 shared-slice-read-put c = search needs
 
 put-requires : tie.Need-put-requires
 put-requires c κs = search needs
 
-add-put-messages : tie.Need-add-put-messages
-add-put-messages c = search needs
+add-put-records : tie.Need-add-put-records
+add-put-records c = search needs
 
-sub-put-messages : tie.Need-sub-put-messages
-sub-put-messages c = search needs
+sub-put-records : tie.Need-sub-put-records
+sub-put-records c = search needs
 
-part-put-messages-start : tie.Need-part-put-messages-start
-part-put-messages-start c = search needs
+part-put-records-start : tie.Need-part-put-records-start
+part-put-records-start c = search needs
 
-part-put-messages-end : tie.Need-part-put-messages-end
-part-put-messages-end c = search needs
+part-put-records-end : tie.Need-part-put-records-end
+part-put-records-end c = search needs
 
-put-messages-requires : tie.Need-put-messages-requires
-put-messages-requires c κs = search needs
+put-records-requires : tie.Need-put-records-requires
+unfolding messageWidth
+put-records-requires c κs =
+    let s = c .before .before .before .before .before .before .before .before .before .before in
+    let put = c .before .before .before .before .put in
+    let cell = s .args .cell .now in
+    let len : length (take (length cell - 1) (drop 1 cell)) ≡ 64 = rest-length 1 cell ∙ omega arith in
+    let same : length (put .last .0) ≡ length (s .args .buf .now) = omega arith in
+    messages (s .pre .0, s .pre .2, len, record { small = omega (arith, s .pre .3 .small); inside = omega (arith, s .pre .3 .inside, same) })
 
 add-result : tie.Need-add-result
 add-result c = search needs
-
-add-result-2 : tie.Need-add-result-2
-add-result-2 c = search needs
 
 mul-result : tie.Need-mul-result
 unfolding messageWidth
 mul-result c = omega arith
 
-add-result-3 : tie.Need-add-result-3
+add-result-2 : tie.Need-add-result-2
 unfolding messageWidth
-add-result-3 c = omega arith
+add-result-2 c = omega arith
 
 same-length : tie.Need-same-length
 same-length c = search needs
@@ -57,7 +66,7 @@ unfolding messageWidth
 returns c =
     let s = c .before .before .before .before .before .before .before .before .before .before .before .before .before in (
       cell-put (s .args .depth) (s .args .cell .now) (s .args .buf .now) _ _ (s .args .at) (s .pre .1) (s .pre .2) (s .pre .3)
-          (c .before .before .before .before .before .before .before .put .ensures) (c .before .before .put-messages .ensures),
+          (c .before .before .before .before .before .before .before .put .ensures) (c .before .before .put-records .ensures),
       refl,
     )
 
@@ -67,16 +76,16 @@ put-cell-spec =
     (tie.spec
     shared-slice-read-c
     cast-c
+    add-w
     shared-slice-read-put
     put-requires
-    add-put-messages
-    sub-put-messages
-    part-put-messages-start
-    part-put-messages-end
-    put-messages-requires
+    add-put-records
+    sub-put-records
+    part-put-records-start
+    part-put-records-end
+    put-records-requires
     add-result
-    add-result-2
     mul-result
-    add-result-3
+    add-result-2
     same-length
     returns)

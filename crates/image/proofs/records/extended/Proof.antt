@@ -1,5 +1,4 @@
 -- `image::records::extended` meets its contract: the shift is half of 2 ^ width, and what is added is 2 ^ 32 - 2 ^ width.
--- Assumes nothing.
 use Prim.Native.Nat.{ℕ, _+_, _-_, _*_, _%_, _^_, _≤_, _<_}
 use native.Mathlib.Omega.{arith}
 use mathlib.Core.Path.{_≡_, sym}

@@ -1,5 +1,5 @@
 -- `image::records::get_record` meets its contract: seven words are got at the widths of a height, the depth is extended, and a message's
--- stamp is got behind them. Assumes nothing.
+-- stamp is got behind them.
 use Prim.Native.Nat.{ℕ, _^_, _<_}
 use native.Mathlib.Omega.{arith}
 use mathlib.Core.Path.{_≡_, sym, ap, ap₂, _∙_}

@@ -1,5 +1,4 @@
 -- `image::records::put_record` meets its contract: seven words are put at the widths of a height, and a message's stamp behind them.
--- Assumes nothing.
 use Prim.Native.Nat.{ℕ, _+_}
 use native.Mathlib.Omega.{arith}
 use mathlib.Core.Path.{_≡_, sym, ap, _∙_}

@@ -1,5 +1,4 @@
 -- `image::rows::get_row` meets its contract: three words are set before the heights.
--- Assumes nothing.
 use native.Mathlib.Omega.{arith}
 use mathlib.Core.Path.{sym, ap, _∙_}
 use lib.ListN.{length, length-set}

@@ -1,11 +1,10 @@
 -- `image::rows::put_row` meets its contract: three fields and the heights are put end to end.
--- Assumes nothing.
 use Prim.Native.Nat.{_-_, _*_}
 use native.Mathlib.Omega.{arith}
 use mathlib.Core.Path.{_≡_, _∙_}
 use lib.ListN.{length, take, drop}
-use Rattle.image.specs.Widths.{nodeWidth}
-use Rattle.image.proofs.PartTurns.{behind-sets}
+use Rattle.image.specs.Widths.{heightWidth, nodeWidth}
+use Rattle.image.proofs.PartTurns.{heights, behind-sets}
 use Rattle.image.proofs.PartCalls.{rest-length, inside-after, row-put}
 use borrow.Author.Needs.{needs}
 use Rattle.image.proofs.rows.put_row.Statement.{statement}
@@ -38,26 +37,30 @@ put-requires-3 : tie.Need-put-requires-3
 unfolding nodeWidth
 put-requires-3 c κs = omega arith
 
-add-put-heights : tie.Need-add-put-heights
-add-put-heights c = search needs
+add-put-records : tie.Need-add-put-records
+add-put-records c = search needs
 
-sub-put-heights : tie.Need-sub-put-heights
-sub-put-heights c = search needs
+add-put-records-2 : tie.Need-add-put-records-2
+add-put-records-2 c = search needs
 
-part-put-heights-start : tie.Need-part-put-heights-start
-part-put-heights-start c = search needs
+sub-put-records : tie.Need-sub-put-records
+sub-put-records c = search needs
 
-part-put-heights-end : tie.Need-part-put-heights-end
-part-put-heights-end c = search needs
+part-put-records-start : tie.Need-part-put-records-start
+part-put-records-start c = search needs
 
-put-heights-requires : tie.Need-put-heights-requires
-put-heights-requires c κs =
+part-put-records-end : tie.Need-part-put-records-end
+part-put-records-end c = search needs
+
+put-records-requires : tie.Need-put-records-requires
+unfolding heightWidth
+put-records-requires c κs =
     let third = c .before .before .before .before in
     let s = third .before .before .before .before .before .before .before .before .before .before .before .before .before .before .before in
     let row = s .args .row .now in
     let len : length (take (length row - 3) (drop 3 row)) ≡ s .args .n * 7 = rest-length 3 row ∙ omega arith in
     let same : length (third .put3 .last .0) ≡ length (s .args .buf .now) = omega arith in
-    (s .pre .0, s .pre .1, len, inside-after same (behind-sets (s .args .depth) (s .args .n) (s .pre .3)))
+    heights (s .pre .0, s .pre .1, len, inside-after same (behind-sets (s .args .depth) (s .args .n) (s .pre .3)))
 
 same-length : tie.Need-same-length
 same-length c = search needs
@@ -69,7 +72,7 @@ returns c =
     let first = second .before .before .before .before .before in
     let s = first .before .before .before .before .before in
     row-put (s .args .depth) (s .args .n) (s .args .row .now) (s .args .buf .now) _ _ _ _ (s .args .at) (s .pre .2) (s .pre .3)
-    (first .put .ensures) (second .put2 .ensures) (third .put3 .ensures) (c .before .before .put-heights .ensures)
+    (first .put .ensures) (second .put2 .ensures) (third .put3 .ensures) (c .before .before .put-records .ensures)
 
 pub put-row-spec : {M : Type 1} → statement M
 put-row-spec =
@@ -83,10 +86,11 @@ put-row-spec =
     add-put-2
     shared-slice-read-put-3
     put-requires-3
-    add-put-heights
-    sub-put-heights
-    part-put-heights-start
-    part-put-heights-end
-    put-heights-requires
+    add-put-records
+    add-put-records-2
+    sub-put-records
+    part-put-records-start
+    part-put-records-end
+    put-records-requires
     same-length
     returns)

@@ -1,5 +1,4 @@
 -- `image_cases::damage::looked` takes no more bytes and lends no more words than there are.
--- Assumes nothing.
 use native.Mathlib.Omega.{arith}
 use mathlib.Core.Path.{sym}
 use lib.Seq.{length-take-le}

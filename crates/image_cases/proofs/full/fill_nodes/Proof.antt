@@ -1,5 +1,4 @@
 -- `image_cases::full::fill_nodes` meets its contract: nothing passes its type.
--- Assumes nothing.
 use Prim.Native.Nat.{_-_}
 use mathlib.Core.Path.{_≡_}
 use lib.ListN.{length}

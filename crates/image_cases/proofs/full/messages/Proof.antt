@@ -1,5 +1,4 @@
 -- `image_cases::full::messages` meets its contract: every word it puts is one of a cell's.
--- Assumes nothing.
 use Prim.Native.Nat.{_-_, _≤_}
 use mathlib.Core.Path.{_≡_}
 use lib.ListN.{length}

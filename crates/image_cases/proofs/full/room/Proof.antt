@@ -1,5 +1,4 @@
 -- `image_cases::full::room` lends no more bytes than there are.
--- Assumes nothing.
 use native.Mathlib.Omega.{arith}
 use mathlib.Core.Path.{sym}
 use lib.Seq.{length-take-le}

@@ -1,5 +1,4 @@
 -- `image_reader::fields::field_at` meets its contract: the field is read from the rest of the slice.
--- Assumes nothing.
 use Rattle.image_reader.proofs.FieldLaws.{field-rest}
 use borrow.Author.Needs.{needs}
 use Rattle.image_reader.proofs.fields.field_at.Statement.{statement}

@@ -1,5 +1,4 @@
 -- `image_reader::fields::inside` meets its contract: past 64 bits, or by whole bytes.
--- Assumes nothing.
 use native.Mathlib.Omega.{arith}
 use Rattle.image_reader.proofs.FieldLaws.{past-words, bytes-hold}
 use borrow.Author.Needs.{needs}

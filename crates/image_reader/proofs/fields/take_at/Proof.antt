@@ -1,5 +1,4 @@
 -- `image_reader::fields::take_at` meets its contract: refused, or the field.
--- Assumes nothing.
 use Rattle.image_reader.proofs.FieldLaws.{take-fits, take-refused, take-taken}
 use borrow.Author.Needs.{needs}
 use Rattle.image_reader.proofs.fields.take_at.Statement.{statement}

@@ -1,5 +1,4 @@
 -- `image_reader::nodes::inside_at` meets its contract: 12, or the record.
--- Assumes nothing.
 use Rattle.image_reader.proofs.RecordLaws.{node-short, node-inside, node-read}
 use borrow.Author.Needs.{needs}
 use Rattle.image_reader.proofs.nodes.inside_at.Statement.{statement}

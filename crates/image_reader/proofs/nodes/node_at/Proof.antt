@@ -1,5 +1,4 @@
 -- `image_reader::nodes::node_at` meets its contract: 1, or on.
--- Assumes nothing.
 use Rattle.image_reader.proofs.RecordLaws.{node-sizes, node-sized, sizes-are}
 use borrow.Author.Needs.{needs}
 use Rattle.image_reader.proofs.nodes.node_at.Statement.{statement}

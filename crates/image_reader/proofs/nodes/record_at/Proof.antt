@@ -1,5 +1,4 @@
 -- `image_reader::nodes::record_at` meets its contract: four parts of one record.
--- Assumes nothing.
 use Prim.Native.Nat.{_+_}
 use native.Mathlib.Omega.{arith}
 use Rattle.bits.proofs.Bytes.{field-lt}

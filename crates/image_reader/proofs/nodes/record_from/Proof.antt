@@ -1,5 +1,4 @@
 -- `image_reader::nodes::record_from` meets its contract: the record is read from the rest of the slice.
--- Assumes nothing.
 use Rattle.image_reader.proofs.RecordLaws.{rest-inside, rest-read}
 use borrow.Author.Needs.{needs}
 use Rattle.image_reader.proofs.nodes.record_from.Statement.{statement}

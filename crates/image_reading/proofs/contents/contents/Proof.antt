@@ -1,5 +1,4 @@
 -- `image_reading::contents::contents` meets its contract: a row's room is lent to the width of n nodes.
--- Assumes nothing.
 use native.Mathlib.Omega.{arith}
 use borrow.Author.Needs.{needs}
 use lib.ListN.{length-take}

@@ -1,5 +1,5 @@
 -- `image_reading::contents::fault_in_row` meets its contract. The invariant: the first v places hold, and the place is behind their channels.
--- The measure is how many are left. Assumes nothing.
+-- The measure is how many are left.
 use Prim.Native.Nat.{_-_}
 use native.Mathlib.Omega.{arith}
 use mathlib.Core.Path.{_≡_, sym, _∙_}
@@ -7,7 +7,7 @@ use borrow.Author.Tests.{not-true, not-false}
 use lib.ListN.{length}
 use Rattle.bits.specs.Bits.{unpacked}
 use Rattle.tables.specs.Tables.{cellWidth}
-use Rattle.image_reading.specs.Search.{rowHolds}
+use Rattle.image_reading.specs.inner.Search.{rowHolds}
 use Rattle.image_reading.proofs.ReadLaws.{ChannelAt, channel-start, channel-next, channel-end, channel-of}
 use Rattle.image_reading.proofs.SearchLaws.{Held, held-none, held-next, held-fault, held-all, place-read}
 use Rattle.image_reading.proofs.contents.fault_in_row.Statement.{statement}

@@ -1,5 +1,5 @@
 -- `image_reading::contents::first_fault` meets its contract. The invariant: the places of the first u rows hold, and the place is behind their channels.
--- The measure is how many rows are left. Assumes nothing.
+-- The measure is how many rows are left.
 use Prim.Native.Nat.{_-_}
 use native.Mathlib.Omega.{arith}
 use mathlib.Core.Path.{_≡_, sym, _∙_}
@@ -97,7 +97,7 @@ returns c =
     let l = t .before .before .before .loop in
     let more = t .before .before .loop-test .taken in
     let w = c .before .before .before .before .before .fault-in-row in
-    let said = row-searched (l .inv .1) (t .before .before .before .before .before .before .before .pre .5) more (t .get-row .ensures) (w .ensures .said) in
+    let said = row-searched (l .inv .1) more (t .get-row .ensures) (w .ensures .said) in
     rows-held-fault (l .inv .0) more (w .result) said (c .before .w .given .1)
 
 enum-known-w-2 : tie.Need-enum-known-w-2 Inv-loop μ-loop
@@ -117,7 +117,7 @@ loop-again c =
     let more = t .before .before .loop-test .taken in
     let w = c .before .before .before .before .before .fault-in-row in
     let on = c .before .w2 .given .1 in
-    let said = row-searched (l .inv .1) (t .before .before .before .before .before .before .before .pre .5) more (t .get-row .ensures) (w .ensures .said) in (
+    let said = row-searched (l .inv .1) more (t .get-row .ensures) (w .ensures .said) in (
       rows-held-next (l .inv .0) more _ said on,
       channels-next (l .inv .1) (w .ensures .ends _ on),
       t .get-row .kept .1 .1 .1 .1 .0 ∙ l .inv .2,

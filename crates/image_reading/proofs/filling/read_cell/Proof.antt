@@ -1,5 +1,4 @@
 -- `image_reading::filling::read_cell` meets its contract: each return is one law of ReadLaws.antt.
--- Assumes nothing.
 use mathlib.Core.Path.{_∙_}
 use borrow.Author.Needs.{needs}
 use Rattle.image_reading.proofs.ReadLaws.{own-cell, own-next, other-cell, other-next, channel-inside}

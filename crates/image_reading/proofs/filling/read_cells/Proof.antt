@@ -1,26 +1,28 @@
 -- `image_reading::filling::read_cells` meets its contract. The invariant: the cells from the first u nodes are filled, and the place is behind
--- their channels. The measure is how many nodes are left. Assumes nothing.
+-- their channels. The measure is how many nodes are left.
 use Prim.Native.Nat.{_-_, _*_}
 use native.Mathlib.Nat.{mul-assoc}
 use native.Mathlib.Omega.{arith}
 use mathlib.Core.Path.{refl, sym, _∙_}
 use Rattle.bits.specs.Bits.{unpacked}
 use Rattle.image.specs.Places.{channelsPlace, recordsIn, tablesIn}
-use Rattle.image.specs.Records.{cellOf, messagesFrom, tablesFrom}
+use Rattle.tables.specs.Records.{cellWords, tablesFrom}
 use Rattle.image.specs.Widths.{heightWidth, nodeWidth}
 use Rattle.tables.specs.Rows.{rows}
 use Rattle.tables.specs.Tables.{cellWidth}
 use Rattle.tables.proofs.RowsLaws.{row-fits}
 use Rattle.image_reading.proofs.FillLaws.{Filling, fill-start, fill-done, fill-wide, fill-next}
 use Rattle.image.proofs.Bounds.{heights-small, nodes-small}
+use Rattle.image.proofs.PartLaws.{records-shaped}
+use Rattle.tables.proofs.RecordsLaws.{length-cells}
 use Rattle.tables.proofs.Sizes.{cell-rows-small}
-use Rattle.image_reading.proofs.ReadLaws.{ChannelsAt, channels-start, channels-next, channels-of, cells-got, length-cells-got}
+use Rattle.image_reading.proofs.ReadLaws.{ChannelsAt, channels-start, channels-next, channels-of, cells-got}
 use Rattle.image_reading.proofs.filling.read_cells.Statement.{statement}
 use Rattle.image_reading.proofs.filling.read_cells.Tie as tie
 
 abbrev Inv-loop : tie.InvT-loop
 Inv-loop image h depth n channels₀ k wide place₀ u₀ channels place u =
-    Filling (n * cellWidth) n (λ i. rows n (λ v. cellOf (messagesFrom (recordsIn h depth n (unpacked image)) i v))) u channels
+    Filling (n * cellWidth) n (λ i. rows n (λ v. cellWords (recordsIn h depth n (unpacked image) .channel i v))) u channels
     × ChannelsAt h depth n (unpacked image) u place
 
 abbrev μ-loop : tie.MeasureT-loop
@@ -103,7 +105,8 @@ loop-again c =
     let l = c .before .before .before .before .before .loop in
     let more = c .before .before .before .before .loop-test .taken in
     let got = c .before .before .read-cells-from .ensures in (
-      fill-next (l .inv .0) more refl refl (cells-got (l .inv .1) (got .0)) (length-cells-got (l .inv .1) (s .pre .4) more),
+      fill-next (l .inv .0) more refl refl (cells-got (l .inv .1) (got .0))
+          (length-cells (s .args .n) _ (records-shaped (s .args .h) (s .args .depth) (s .args .n) _) (l .u) more),
       channels-next (l .inv .1) (got .1),
     )
 

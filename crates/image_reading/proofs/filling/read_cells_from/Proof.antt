@@ -1,11 +1,11 @@
 -- `image_reading::filling::read_cells_from` meets its contract. The invariant: the first v cells are filled, and the place is behind their channels.
--- The measure is how many are left. Assumes nothing.
+-- The measure is how many are left.
 use Prim.Native.Nat.{_-_}
 use native.Mathlib.Omega.{arith}
 use mathlib.Core.Path.{refl, sym, _∙_}
 use Rattle.bits.specs.Bits.{unpacked}
 use Rattle.tables.specs.Tables.{cellWidth}
-use Rattle.image_reading.specs.Cells.{cellBehind}
+use Rattle.image_reading.specs.inner.Cells.{cellBehind}
 use Rattle.image_reading.proofs.FillLaws.{Filling, fill-start, fill-done, fill-wide, fill-next}
 use Rattle.image_reading.proofs.ReadLaws.{ChannelAt, channel-start, channel-next, channel-end, channel-of, cell-behind, length-cell-behind}
 use Rattle.image_reading.proofs.filling.read_cells_from.Statement.{statement}
@@ -65,7 +65,8 @@ loop-again c =
     let l = c .before .before .before .before .before .loop in
     let more = c .before .before .before .before .loop-test .taken in
     let got = c .before .before .read-cell .ensures in (
-      fill-next (l .inv .0) more refl refl (cell-behind (l .inv .1) (got .0)) (length-cell-behind (s .pre .3) (l .v) more),
+      fill-next (l .inv .0) more refl refl (cell-behind (l .inv .1) (got .0))
+          (length-cell-behind (s .args .depth) (unpacked (s .args .image .now)) (s .args .u) (s .args .at) _),
       channel-next (l .inv .1) (got .1),
     )
 

@@ -1,24 +1,25 @@
 -- `image_reading::filling::read_rows` meets its contract. The invariant: the first u rows are filled. The measure is how many are left.
--- Assumes nothing.
 use Prim.Native.Nat.{_-_}
 use native.Mathlib.Omega.{arith}
 use mathlib.Core.Path.{refl, sym, _∙_}
 use Rattle.bits.specs.Bits.{unpacked}
 use Rattle.image.specs.Places.{recordsIn, tablesIn}
-use Rattle.image.specs.Records.{rowOf, tablesFrom}
+use Rattle.tables.specs.Records.{rowWords, tablesFrom}
 use Rattle.image.specs.Widths.{heightWidth, nodeWidth}
 use Rattle.tables.specs.Tables.{width}
 use Rattle.tables.proofs.RowsLaws.{row-fits}
 use Rattle.image_reading.proofs.FillLaws.{Filling, fill-start, fill-done, fill-wide, fill-next}
 use Rattle.image.proofs.Bounds.{heights-small}
 use Rattle.tables.proofs.Sizes.{rows-small}
-use Rattle.image_reading.proofs.ReadLaws.{node-inside, row-got, length-row-got}
+use Rattle.image.proofs.PartLaws.{records-shaped}
+use Rattle.tables.proofs.RecordsLaws.{length-row}
+use Rattle.image_reading.proofs.ReadLaws.{node-inside, row-got}
 use Rattle.image_reading.proofs.filling.read_rows.Statement.{statement}
 use Rattle.image_reading.proofs.filling.read_rows.Tie as tie
 
 abbrev Inv-loop : tie.InvT-loop
 Inv-loop image h depth n nodes₀ k wide step u₀ nodes u =
-    Filling (width n) n (rowOf n (recordsIn h depth n (unpacked image))) u nodes
+    Filling (width n) n (rowWords n (recordsIn h depth n (unpacked image))) u nodes
 
 abbrev μ-loop : tie.MeasureT-loop
 μ-loop image h depth n nodes₀ k wide step u₀ nodes u = n - u
@@ -96,9 +97,10 @@ unfolding nodeWidth heightWidth
 loop-again c =
     let s = c .before .before .before .before .before .before .before .before in
     let l = c .before .before .before .before .before .loop in
-    fill-next (l .inv) (c .before .before .before .before .loop-test .taken) refl refl
+    let more = c .before .before .before .before .loop-test .taken in
+    fill-next (l .inv) more refl refl
     (row-got (s .args .h) (s .args .depth) (s .args .n) _ (l .u) (c .before .before .get-row .ensures))
-    (length-row-got (s .args .h) (s .args .depth) (s .args .n) _ (l .u))
+    (length-row (s .args .n) _ (records-shaped (s .args .h) (s .args .depth) (s .args .n) _) (l .u) more)
 
 same-length : tie.Need-same-length Inv-loop μ-loop
 same-length c = c .before .loop .inv .size ∙ sym (c .before .before .before .before .pre .3)

@@ -1,5 +1,4 @@
 -- `image_reading::walking::ends_at` meets its contract: each return is one law of ByteLaws.antt.
--- Assumes nothing.
 use Rattle.image_reading.proofs.ByteLaws.{bytes-left, pad-read}
 use borrow.Author.Needs.{needs}
 use Rattle.image_reading.proofs.walking.ends_at.Statement.{statement}

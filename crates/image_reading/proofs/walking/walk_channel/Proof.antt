@@ -1,5 +1,4 @@
 -- `image_reading::walking::walk_channel` meets its contract: each return is one law of ByteLaws.antt.
--- Assumes nothing.
 use Rattle.image_reading.proofs.ByteLaws.{own-channel, no-count, too-many, messages-cut, goes-on}
 use Rattle.image.proofs.Bounds.{messages-small}
 use native.Mathlib.Omega.{arith}

@@ -1,5 +1,4 @@
 -- `image_reading::walking::walk_channels` meets its contract: the laws of `Walking` (Steps.antt), the channels from one node at most 16 * 1156 bits.
--- Assumes nothing.
 use Rattle.image_reading.proofs.Steps.{Walking, walk-start, walk-next, walk-stops, walk-done}
 use Rattle.image_reading.proofs.WalkLaws.{row-near}
 use Rattle.image_reading.specs.Walk.{channelsFromWalk, channelsWalk}

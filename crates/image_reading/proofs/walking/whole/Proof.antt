@@ -1,5 +1,4 @@
 -- `image_reading::walking::whole` meets its contract: each return is one law of ByteLaws.antt.
--- Assumes nothing.
 use Rattle.image_reading.proofs.ByteLaws.{nodes-cut, nodes-stand}
 use Rattle.image.proofs.Bounds.{heights-small, nodes-small}
 use native.Mathlib.Omega.{arith}

@@ -1,5 +1,5 @@
 -- `image_writing::channels::cells_from_length` meets its contract. The invariant: the sum is the length of the channels to the nodes below v.
--- The measure is how many nodes are left. Assumes nothing.
+-- The measure is how many nodes are left.
 use Prim.Native.Nat.{ℕ, _+_, _-_}
 use native.Mathlib.Omega.{arith}
 use mathlib.Core.Logic.{⊎-elim}
@@ -8,7 +8,7 @@ use lib.ListN.{length}
 use Rattle.image.specs.Widths.{messageWidth}
 use Rattle.protocol.specs.Network.{Node}
 use Rattle.tables.specs.Cell.{count}
-use Rattle.image_writing.specs.Words.{cellBitsAt, cellsFromBits}
+use Rattle.image_writing.specs.inner.Words.{cellBitsAt, cellsFromBits}
 use Rattle.image_writing.proofs.LengthLaws.{own-none, waiting-le, length-cell, cells-from-le}
 use Rattle.image_writing.proofs.PieceLaws.{Summed, summed-start, summed-next, summed-all}
 use Rattle.image_writing.proofs.channels.cells_from_length.Statement.{statement}

@@ -1,9 +1,9 @@
 -- `image_writing::channels::cells_length` meets its contract. The invariant: the sum is the length of the channels from the nodes below u.
--- The measure is how many nodes are left. Assumes nothing.
+-- The measure is how many nodes are left.
 use Prim.Native.Nat.{ℕ, _+_, _-_}
 use native.Mathlib.Omega.{arith}
 use mathlib.Core.Path.{ap}
-use Rattle.image_writing.specs.Words.{cellsFromBits, cellsBits}
+use Rattle.image_writing.specs.inner.Words.{cellsFromBits, cellsBits}
 use Rattle.image_writing.proofs.LengthLaws.{cells-le, cells-most}
 use Rattle.image_writing.proofs.PieceLaws.{Summed, summed-start, summed-next, summed-all}
 use Rattle.image_writing.proofs.channels.cells_length.Statement.{statement}

@@ -1,8 +1,8 @@
 -- `image_writing::channels::put_cells` meets its contract. The invariant: the channels from the nodes below u are written, and the place is behind them.
--- The measure is how many nodes are left. Assumes nothing.
+-- The measure is how many nodes are left.
 use Prim.Native.Nat.{_+_, _-_}
 use native.Mathlib.Omega.{arith}
-use Rattle.image_writing.specs.Words.{cellsFromBits, cellsBits}
+use Rattle.image_writing.specs.inner.Words.{cellsFromBits, cellsBits}
 use Rattle.image_writing.proofs.LengthLaws.{below-cells-from}
 use Rattle.image_writing.proofs.PieceLaws.{Laid, laid-start, laid-room, laid-next, laid-all}
 use Rattle.image_writing.proofs.channels.put_cells.Statement.{statement}

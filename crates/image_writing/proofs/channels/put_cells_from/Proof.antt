@@ -1,15 +1,15 @@
 -- `image_writing::channels::put_cells_from` meets its contract. The invariant: the channels to the nodes below v are written, and the place is behind them.
--- The measure is how many nodes are left. Assumes nothing.
+-- The measure is how many nodes are left.
 use Prim.Native.Nat.{_+_, _-_, _*_}
 use native.Mathlib.Omega.{arith}
 use mathlib.Core.Logic.{⊎-elim}
 use mathlib.Core.Path.{_≡_, ap, sym, _∙_}
 use Rattle.bits.specs.Bits.{written}
-use Rattle.image.specs.Parts.{Inside, cellBits}
+use Rattle.image.specs.inner.Parts.{Inside, cellBits}
 use Rattle.image.specs.Widths.{messageWidth}
 use Rattle.protocol.specs.Network.{Node}
 use Rattle.tables.specs.Cell.{count}
-use Rattle.image_writing.specs.Words.{cellBitsAt, cellsFromBits}
+use Rattle.image_writing.specs.inner.Words.{cellBitsAt, cellsFromBits}
 use Rattle.image_writing.proofs.LengthLaws.{own-none, other-cell, waiting-few, length-cell, below-cell-at}
 use Rattle.image_writing.proofs.PieceLaws.{Laid, laid-start, laid-room, laid-next, laid-skip, laid-all}
 use Rattle.image_writing.proofs.channels.put_cells_from.Statement.{statement}

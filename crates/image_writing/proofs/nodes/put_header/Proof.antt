@@ -1,5 +1,4 @@
 -- `image_writing::nodes::put_header` meets its contract: four fields end to end are the header.
--- Assumes nothing.
 use borrow.Author.Needs.{needs}
 use Rattle.image_writing.proofs.HeaderLaws.{header-written}
 use Rattle.image_writing.proofs.nodes.put_header.Statement.{statement}

@@ -1,15 +1,15 @@
 -- `image_writing::nodes::put_nodes` meets its contract. The invariant: the rows of the nodes below u are written, and the place is behind them.
--- The measure is how many nodes are left. Assumes nothing.
+-- The measure is how many nodes are left.
 use Prim.Native.Nat.{ℕ, _+_, _-_, _*_, _≤_}
 use native.Mathlib.Omega.{arith}
 use mathlib.Core.List.{List}
 use mathlib.Core.Path.{_≡_, ap, _∙_}
 use lib.ListN.{length}
 use Rattle.bits.specs.Bits.{written}
-use Rattle.image.specs.Parts.{Inside, rowBits}
+use Rattle.image.specs.inner.Parts.{Inside, rowBits}
 use Rattle.image.specs.Widths.{heightWidth, nodeWidth}
 use Rattle.tables.specs.Tables.{width, nodeOf}
-use Rattle.image_writing.specs.Words.{nodesBits}
+use Rattle.image_writing.specs.inner.Words.{nodesBits}
 use Rattle.image.proofs.Bounds.{heights-small}
 use Rattle.image_writing.proofs.LengthLaws.{nodeBitsAt, below-node, length-node, nodes-inside}
 use Rattle.image_writing.proofs.PieceLaws.{Laid, laid-start, laid-room, laid-next, laid-all}

@@ -1,5 +1,4 @@
 -- `image_writing::nodes::put_pad` meets its contract: a field of zero is a run of zero bits.
--- Assumes nothing.
 use mathlib.Core.Path.{ap, _∙_}
 use borrow.Author.Needs.{needs}
 use Rattle.bits.specs.Bits.{written}

@@ -1,5 +1,5 @@
 -- `lent::filling::fill` meets its contract. The invariant: the rows below u are written, the others are zero.
--- The measure is how many rows are left. Assumes nothing.
+-- The measure is how many rows are left.
 use Prim.Native.Nat.{ℕ, _+_, _-_}
 use native.Mathlib.Omega.{arith}
 use mathlib.Core.Path.{refl, ap, sym, _∙_}

@@ -1,5 +1,4 @@
 -- `lent::filling::fresh_height` meets its contract: node k elects itself at the clock 0.
--- Assumes nothing.
 use native.Mathlib.Omega.{arith}
 use borrow.Author.Needs.{needs}
 use Rattle.height.specs.Words.{Negated}

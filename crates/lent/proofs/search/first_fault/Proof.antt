@@ -1,5 +1,5 @@
 -- `lent::search::first_fault` meets its contract. The invariants: the whole answer is that of the rows from u on, and of the places
--- from v on in row u. The measures are how many of each are left. Assumes nothing.
+-- from v on in row u. The measures are how many of each are left.
 use Prim.Native.Nat.{_+_, _-_}
 use native.Mathlib.Omega.{arith}
 use mathlib.Core.Path.{sym, _∙_}

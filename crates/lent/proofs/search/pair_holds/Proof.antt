@@ -1,5 +1,4 @@
 -- `lent::search::pair_holds` meets its contract, by whether u is v: the parts that are lent are the row of u and the cell of u to v.
--- Assumes nothing.
 use borrow.Author.Needs.{needs}
 use borrow.Author.Tests.{eq-eqb, ne-eqb}
 use Rattle.lent.specs.Check.{pairAt}

@@ -1,5 +1,5 @@
 -- `tables::cells::all_zero` meets its contract. The loop's invariant: the whole answer is that the words joined so far are zero and that
--- the rest is all zero. The measure is what is left of the length. Assumes nothing.
+-- the rest is all zero. The measure is what is left of the length.
 use Prim.Native.Nat.{ℕ, zero, suc, _+_, _-_, _≤_, _<_}
 use mathlib.Core.Path.{_≡_, refl, ap, sym, _∙_}
 use mathlib.Core.Bool.{Bool, false, _&&_, and-true}

@@ -1,5 +1,4 @@
 -- `tables::cells::append` meets its contract: the stores are those of `appended`, in its order.
--- Assumes nothing.
 use native.Mathlib.Omega.{arith}
 use lib.ListN.{length-set}
 use Rattle.tables.specs.Cell.{appended}

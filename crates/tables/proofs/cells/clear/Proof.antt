@@ -1,5 +1,4 @@
 -- `tables::cells::clear` meets its contract: a cell has 65 words, and each is zeroed.
--- Assumes nothing.
 use Prim.Native.Nat.{ℕ}
 use mathlib.Core.Path.{ap, _∙_}
 use lib.ListN.{replicate}

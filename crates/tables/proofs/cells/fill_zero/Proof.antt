@@ -1,5 +1,5 @@
 -- `tables::cells::fill_zero` meets its contract. The loop's invariant: the first i words are zero, the others as they were.
--- The measure is what is left of the length. Assumes nothing.
+-- The measure is what is left of the length.
 use Prim.Native.Nat.{ℕ, _-_, _≤_, _<_}
 use mathlib.Core.Path.{_≡_, refl, ap, _∙_}
 use mathlib.Core.List.{List, _++_, append-nil}

@@ -1,5 +1,4 @@
 -- `tables::cells::is_unused_after` meets its contract: the part of the cell that is looked at is all that follows the messages.
--- Assumes nothing.
 use Prim.Native.Nat.{_+_, _*_}
 use mathlib.Core.Path.{ap, _∙_}
 use borrow.Author.Needs.{needs}

@@ -1,5 +1,4 @@
 -- `tables::cells::nth_height` meets its contract: message k's height stands from word 1 + 8 k.
--- Assumes nothing.
 use borrow.Author.Needs.{needs}
 use Rattle.tables.specs.Cell.{messageAt}
 use Rattle.tables.proofs.cells.nth_height.Statement.{statement}

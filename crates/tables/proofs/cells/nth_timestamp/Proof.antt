@@ -1,5 +1,4 @@
 -- `tables::cells::nth_timestamp` meets its contract: message k's timestamp is the last of its eight words.
--- Assumes nothing.
 use borrow.Author.Needs.{needs}
 use mathlib.Core.Path.{refl}
 use Rattle.tables.specs.Cell.{messageAt}

@@ -1,5 +1,5 @@
--- `tables::cells::take_first` meets its contract. The loop's invariant: words 1 to i - 1 are those eight places on, the others as they were.
--- The measure is what is left of the 56 words that move. Assumes nothing.
+-- `tables::cells::take_first` meets its contract. The loop's invariant: words 1 to i - 1 are those eight words on, the others as they were.
+-- The measure is what is left of the 56 words that move.
 use Prim.Native.Nat.{ℕ, zero, suc, _+_, _-_, _≤_, _<_}
 use mathlib.Core.Path.{_≡_, refl, ap, sym, _∙_}
 use mathlib.Core.List.{List, [], _∷_, _++_}
@@ -10,7 +10,7 @@ use Rattle.tables.specs.Cell.{taken}
 use Rattle.tables.proofs.cells.take_first.Statement.{statement}
 use Rattle.tables.proofs.cells.take_first.Tie as tie
 
--- the first k of the words that move have moved up one place
+-- the first k of the words that move have moved up one slot
 abbrev moved : List ℕ → ℕ → List ℕ
 moved cell k = paste cell 1 (drop 9 cell) k
 
@@ -57,7 +57,7 @@ module _ (cell : List ℕ) (full : length cell ≡ 65) where
       take-paste cell 1 (drop 9 cell) 56 (omega arith) (omega (arith, rest))
       ∙ ap (λ (ws : List ℕ). take 1 cell ++ ws) (take-all 56 (drop 9 cell) (omega (arith, rest)))
 
-  -- after the loop: the freed place zeroed, the count one less
+  -- after the loop: the freed slot zeroed, the count one less
   freed : (now zeros : List ℕ) → now ≡ moved cell 56 → zeros ≡ replicate (length (take 8 (drop 57 now))) 0
       → set (take 57 now ++ (zeros ++ drop 8 (drop 57 now))) 0 (getD cell 0 0 - 1) ≡ taken cell
   unfolding taken

@@ -1,5 +1,4 @@
 -- `tables::rows::channel` meets its contract: the part that is lent is the row of the pair u, v.
--- Assumes nothing.
 use mathlib.Core.Path.{refl, ap, _∙_}
 use lib.ListN.{length}
 use Rattle.tables.proofs.RowsLaws.{part-row, channel-length}

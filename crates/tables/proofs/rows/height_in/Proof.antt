@@ -1,5 +1,4 @@
 -- `tables::rows::height_in` meets its contract: node v's seven words stand from 3 + (v - 1) * 7.
--- Assumes nothing.
 use borrow.Author.Needs.{needs}
 use mathlib.Core.Path.{sym, _∙_}
 use Rattle.tables.proofs.RowsLaws.{height-place}

@@ -1,5 +1,4 @@
 -- `tables::rows::node` meets its contract: the part that is lent is row u - 1.
--- Assumes nothing.
 use mathlib.Core.Path.{refl, ap, _∙_}
 use lib.ListN.{length}
 use Rattle.tables.proofs.RowsLaws.{part-row, node-length}

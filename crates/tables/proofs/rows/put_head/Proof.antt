@@ -1,10 +1,9 @@
--- `tables::rows::put_head` meets its contract: the stores are those of `headed`, in its order.
--- Assumes nothing.
+-- `tables::rows::put_head` meets its contract: the stores are those of `withHead`, in its order.
 use native.Mathlib.Omega.{arith}
 use mathlib.Core.Path.{refl}
 use borrow.Author.Needs.{needs}
 use lib.ListN.{length-set}
-use Rattle.tables.specs.Row.{headed}
+use Rattle.tables.specs.Row.{withHead}
 use Rattle.tables.proofs.rows.put_head.Statement.{statement}
 use Rattle.tables.proofs.rows.put_head.Tie as tie
 
@@ -18,7 +17,7 @@ same-length : tie.Need-same-length
 same-length c = simp length-set
 
 returns : tie.Need-returns
-unfolding headed
+unfolding withHead
 returns c = refl
 
 pub put-head-spec : {M : Type 1} → statement M

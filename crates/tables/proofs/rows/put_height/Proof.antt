@@ -1,5 +1,4 @@
 -- `tables::rows::put_height` meets its contract: the height is stored at node v's place.
--- Assumes nothing.
 use mathlib.Core.Path.{sym, _∙_}
 use borrow.Author.Needs.{needs}
 use Rattle.tables.proofs.RowsLaws.{put-height-place}

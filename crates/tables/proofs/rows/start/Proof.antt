@@ -1,5 +1,4 @@
 -- `tables::rows::start` meets its contract: row i of `count` ends inside them, and both factors are small.
--- Assumes nothing.
 use native.Mathlib.Omega.{arith}
 use mathlib.Core.Path.{refl}
 use Rattle.tables.proofs.RowsLaws.{row-fits, product-le}

@@ -7,24 +7,25 @@ use mathlib.Core.Path.{_≡_}
 use lib.Dec.{eqb}
 use lib.ListN.{length}
 use Rattle.image.specs.Places.{fieldIn, channelFrom, walked, channelNext, channelsNext}
-use Rattle.image.specs.Records.{cellOf}
+use Rattle.protocol.specs.Network.{capacity}
+use Rattle.tables.specs.Records.{cellWords}
 
 -- the cell of channel u to v, which starts at q
 unfoldable pub cellIn : ℕ → List ℕ → ℕ → ℕ → ℕ → List ℕ
-cellIn d l u v q = cellOf (cond (eqb u v) [] (channelFrom d l q))
+cellIn d l u v q = cellWords (cond (eqb u v) [] (channelFrom d l q))
 
 -- the cell of channel u to v, where the channels from u start at q
 unfoldable pub cellBehind : ℕ → List ℕ → ℕ → ℕ → ℕ → List ℕ
 cellBehind d l u q v = cellIn d l u v (walked (channelNext d l u) (v - 1) q)
 
--- channel u to v, which starts at q, holds at most 8 messages and ends inside the image
+-- channel u to v, which starts at q, holds at most its capacity and ends inside the image
 pub record ChannelIn (d : ℕ) (l : List ℕ) (u v q : ℕ) : Type 0 where
-  pub few : (u ≡ v → ⊥) → fieldIn l q 4 ≤ 8
+  pub few : (u ≡ v → ⊥) → fieldIn l q 4 ≤ capacity
   pub inside : channelNext d l u v q ≤ length l
   pub small : channelNext d l u v q < 2 ^ 30
 
--- the channels from u, which start at q, hold at most 8 messages each and end inside the image
+-- the channels from u, which start at q, hold at most their capacity and end inside the image
 pub record ChannelsIn (d n : ℕ) (l : List ℕ) (u q : ℕ) : Type 0 where
-  pub few : (j : ℕ) → j < n → (u ≡ suc j → ⊥) → fieldIn l (walked (channelNext d l u) j q) 4 ≤ 8
+  pub few : (j : ℕ) → j < n → (u ≡ suc j → ⊥) → fieldIn l (walked (channelNext d l u) j q) 4 ≤ capacity
   pub inside : channelsNext d n l u q ≤ length l
   pub small : channelsNext d n l u q < 2 ^ 30

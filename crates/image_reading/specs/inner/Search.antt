@@ -8,7 +8,7 @@ use Rattle.pairs.specs.Pair.{pairSound}
 use Rattle.refusal.specs.declared.Why.{Why}
 use Rattle.image_reading.specs.declared.Walk.{Walk}
 use Rattle.image_reading.specs.declared.Walk.the-variants.{At}
-use Rattle.image_reading.specs.Cells.{cellBehind}
+use Rattle.image_reading.specs.inner.Cells.{cellBehind}
 use Rattle.image_reading.specs.Walk.{saidWalk}
 
 -- the pair u, v, with u's row; the channels from u start at q

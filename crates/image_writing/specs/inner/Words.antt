@@ -5,8 +5,8 @@ use mathlib.Core.Bool.{cond}
 use mathlib.Core.List.{List, [], _++_}
 use lib.Dec.{eqb}
 use Rattle.image.specs.Image.{headerBits}
-use Rattle.image.specs.Parts.{rowBits, cellBits}
-use Rattle.protocol.specs.Network.{Node}
+use Rattle.image.specs.inner.Parts.{rowBits, cellBits}
+use Rattle.protocol.specs.Network.{Node, capacity}
 use Rattle.tables.specs.Cell.{count}
 use Rattle.tables.specs.Rows.{rows}
 use Rattle.tables.specs.Tables.{Tables, nodeOf, channelOf}
@@ -28,6 +28,6 @@ cellsBits d n cs = rows n (cellsFromBits d n cs)
 unfoldable pub wordsBits : ℕ → ℕ → ℕ → ℕ → Tables → List ℕ
 wordsBits version h d n t = headerBits version h n ++ (nodesBits d n (t .nodes) ++ cellsBits d n (t .channels))
 
--- no channel holds more than 8 messages
+-- no channel holds more messages than its capacity
 pub record Counts (n : ℕ) (cs : List ℕ) : Type 0 where
-  pub few : (u v : ℕ) → Node n u → Node n v → count (channelOf n u v cs) ≤ 8
+  pub few : (u v : ℕ) → Node n u → Node n v → count (channelOf n u v cs) ≤ capacity

@@ -1,0 +1,2 @@
+-- Definitions for the proofs alone: no public promise cites them. The bits of both tables, as the loops write them.
+pub mod Words

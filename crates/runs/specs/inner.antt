@@ -1,0 +1,2 @@
+-- Definitions for the proofs alone: no public promise cites them. The same lists of calls by the meaning.
+pub mod ByMeaning
