@@ -8,7 +8,8 @@ use mathlib.Core.Path.{_≡_, sym, ap, _∙_}
 use lib.ListN.{length}
 use Rattle.refusal.specs.Refusal.{why}
 use Rattle.refusal.specs.Outcome.{outcome}
-use Rattle.election.specs.RunOn.{EventCall, tablesAfter as tablesAfterEvents, saidByTables}
+use Rattle.basics.specs.Functions.{afterAll, sayAll}
+use Rattle.election.specs.RunOn.{EventCall, tablesLeft, saidOn}
 use Rattle.lent.specs.Fresh.{freshOn}
 use Rattle.lent.proofs.CheckLaws.{sized-is}
 use Rattle.protocol.specs.Network.{Node, Network, upTo, own}
@@ -59,8 +60,8 @@ pub record LastSave (n : ℕ) (cs : List Call) (b : List ℕ) : Type 0 where
 pub record Resumed (n : ℕ) (cs : List Call) (b : List ℕ) : Type 0 where
   pub last : LastSave n cs b
   pub history : historyAfter n (cs ++ (restore b ∷ [])) ≡ historyAfter n (last .before)
-  pub answers : (es : List EventCall) → saidByTables (restoreOn b (tablesAt n cs) .after) es ≡ saidByTables (tablesAt n (last .before)) es
-  pub tables : (es : List EventCall) → tablesAfterEvents (restoreOn b (tablesAt n cs) .after) es ≡ tablesAfterEvents (tablesAt n (last .before)) es
+  pub answers : (es : List EventCall) → sayAll tablesLeft saidOn (restoreOn b (tablesAt n cs) .after) es ≡ sayAll tablesLeft saidOn (tablesAt n (last .before)) es
+  pub tables : (es : List EventCall) → afterAll tablesLeft (restoreOn b (tablesAt n cs) .after) es ≡ afterAll tablesLeft (tablesAt n (last .before)) es
 
 pub record Demand3 (n : ℕ) (cs : List Call) : Type 0 where
   -- (a) v is in N or F of u exactly when the last up or down of u, v in the history is an up,
@@ -139,8 +140,8 @@ module _ (n : ℕ) (low : 1 ≤ n) (few : n ≤ 16) where
         history =
             ap (λ (w : RunState Tables). w .history) (perform-append onTables start cs (restore b ∷ []))
             ∙ restore-history onTables (after n cs) b s e (rw (now-after start cs) zero!) ∙ ap (λ (x : Saved Tables). x .history) (r .is);
-        answers = λ es. ap (λ (f : Filled). saidByTables (f .after) es) back;
-        tables = λ es. ap (λ (f : Filled). tablesAfterEvents (f .after) es) back;
+        answers = λ es. ap (λ (f : Outcome Why Tables). sayAll tablesLeft saidOn (f .after) es) back;
+        tables = λ es. ap (λ (f : Outcome Why Tables). afterAll tablesLeft (f .after) es) back;
       }
   accepted cs b allowed (fairRefused _ d) zero! = absurd (d (rw (now-after (startOfRun (freshTables n)) cs) zero!))
 

@@ -38,7 +38,7 @@ take-front (x ∷ b) rest = ap (λ (l : List ℕ). x ∷ l) (take-front b rest)
 
 -- 0 is said exactly where the bytes fit, and then they stand at the front
 pub put-out : (b out : List ℕ) → putFront b out .said .why .number ≡ 0 → putOut (putFront b out) ≡ b
-unfolding put
+unfolding putFront
 put-out b out zero! = go (choice (leb (length b) (length out))) zero!
   where
     go : Choice (leb (length b) (length out)) → putFront b out .said .why .number ≡ 0 → putOut (putFront b out) ≡ b
@@ -69,7 +69,7 @@ module _ (n : ℕ) (low : 1 ≤ n) (few : n ≤ 16) where
       ap (λ (x : List ℕ). restoreOn x (tablesOf n q)) is
       ∙ restore-image n low few p holds inside (tablesOf n q) (is-sized n (tablesOf n q) (tables-sized n q low few))
 
-  pub writes : (m : ℕ) (out : List ℕ) (p : Network) → writing (saveMeant n m out p) .number ≡ 0 → ImageOf n p (writing (saveMeant n m out p) .left)
+  pub writes : (m : ℕ) (out : List ℕ) (p : Network) → writing (saveMeant n m out p) .said ≡ 0 → ImageOf n p (writing (saveMeant n m out p) .after)
   writes m out p zero! = save-good n m out p zero! .bytes
 
   pub reads : (p : Network) (b : List ℕ) → sound n p ≡ true → restrict n p ≡ p → ImageOf n p b → (q : Network)
@@ -77,7 +77,7 @@ module _ (n : ℕ) (low : 1 ≤ n) (few : n ≤ 16) where
   unfolding restoreMeant
   reads p b holds inside is q = rw (restore-of p b holds inside is q, load-back n p (storable n p (sound-fits n p inside holds)))
 
-  pub kept : (b : List ℕ) (q : Network) → sound n q ≡ true → restrict n q ≡ q → (restoreMeant n b q .number ≡ 0 → ⊥) → restoreMeant n b q .left ≡ q
+  pub kept : (b : List ℕ) (q : Network) → sound n q ≡ true → restrict n q ≡ q → (restoreMeant n b q .said ≡ 0 → ⊥) → restoreMeant n b q .after ≡ q
   unfolding restoreMeant
   kept b q holds inside d = rw (restore-kept b (tablesOf n q) d) (load-back n q (storable n q (sound-fits n q inside holds)))
 

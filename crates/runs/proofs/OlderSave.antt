@@ -7,7 +7,7 @@ use mathlib.Core.List.{List, [], _∷_, _++_, map}
 use mathlib.Core.Path.{_≡_, refl}
 use lib.ListN.{set, replicate}
 use Rattle.refusal.specs.Refusal.{why}
-use Rattle.refusal.specs.Outcome.{outcome, refusedWith}
+use Rattle.refusal.specs.Outcome.{outcome, putFront, refusedWith}
 use Rattle.bits.specs.Bits.{bits, number, unpacked, packed, field, spread, gathered}
 use Rattle.election.specs.StepOn.{stepAt, stepChecked, stepOn}
 use Rattle.height.specs.Height.{zeroLevel, levelKey, pairKey, heightKey}
@@ -19,7 +19,7 @@ use Rattle.image.specs.Places.{channelsNext, channelsPlace, channelsFromPlace, 
 use Rattle.image.specs.Widths.{recordBits, extendedOf, recordOf, heightWidth, messageWidth, nodeWidth}
 use Rattle.lent.specs.Check.{pairAt, faultInRow, faultFrom, firstFault, checkOn}
 use Rattle.nodeset.specs.NodeSet.{member, setOf, within}
-use Rattle.pairs.specs.Pair.{ownSound, viewSound, channelPlace as channelPlaceHolds, pairSound}
+use Rattle.pairs.specs.Pair.{ownSound, viewSound, channelSound, pairSound}
 use Rattle.protocol.specs.Answer.{carriedOut, saidRefused}
 use Rattle.protocol.specs.Network.{Node, own}
 use Rattle.calls.specs.Component.{Quiescent, OneLeader}
@@ -44,7 +44,7 @@ use Rattle.tables.specs.Row.{heightIn}
 use Rattle.tables.specs.Rows.{rowAt, rows}
 use Rattle.tables.specs.Tables.{Tables, sized}
 use Rattle.runs.specs.OnTables.{Reply, toEvent, toSave, toRestore, putOut, onTables, freshTables, after, Allowed}
-use Rattle.runs.specs.OnTables.{reply, tablesAfter, tablesAfterAll, replies}
+use Rattle.runs.specs.OnTables.{reply, tablesAfter, replies}
 use Rattle.runs.proofs.AllowedLists.{refused-allowed}
 use Rattle.runs.proofs.Demand3.{tablesAt, networkAt, historyAfter, Resumed, Demand3, demand-3}
 use Rattle.runs.proofs.Lists.{fair-append, plain-fair}
@@ -166,12 +166,12 @@ unfolding bits number unpacked packed field spread gathered stepAt stepChecked s
     deltaWord heightWords heightAt headerBits nodeBits messageBits channelBits channelsBits networkBits padded bytesOf imageOf image fieldIn
     heightFrom messagesOf channelFrom walked channelNext channelsNext channelsPlace channelsFromPlace channelPlace imageEnd recordsIn
     tablesIn recordsOf rowWords slotWords cellWords tablesFrom recordBits extendedOf recordOf heightWidth messageWidth nodeWidth pairAt
-    faultInRow faultFrom firstFault checkOn member setOf within ownSound viewSound channelPlaceHolds pairSound every all update levelHolds
+    faultInRow faultFrom firstFault checkOn member setOf within ownSound viewSound channelSound pairSound every all update levelHolds
     deltaHolds leaderPairHolds heightHolds messageHolds notInBoth setsHold misnamed late hasRoom crowded returned accepts answer next absent
     downRule larger largest deltas ofLevel oneLevelRule equalPairsRule receiptRule above sink carried localUp localDown localIgnored
     localTaken post commit step afterWalk examined headerHolds headerOf channelStep onward steps channelsFromWalk channelsWalk walk endsAt
-    restoreExamined restoreOf restoreHeaded restoreOn put saveChecked saveOn messageAt messagesAt queue allZero messageWords
-    load tablesOf heightIn rowAt rows sized reply tablesAfter tablesAfterAll replies nodePlace pairQuiet nodeQuiet quiet
+    restoreExamined restoreOf restoreHeaded restoreOn putFront saveChecked saveOn messageAt messagesAt queue allZero messageWords
+    load tablesOf heightIn rowAt rows sized reply tablesAfter nodePlace pairQuiet nodeQuiet quiet
 computed = record {
   answered = refl;
   saves-are = refl;

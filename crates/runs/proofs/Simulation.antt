@@ -32,7 +32,7 @@ use Rattle.tables.specs.Load.{load, tablesOf}
 use Rattle.tables.specs.Tables.{Tables}
 use Rattle.tables.proofs.Back.{storable, load-back}
 use Rattle.runs.specs.inner.ByMeaning.{saveMeant, restoreMeant, byMeaning}
-use Rattle.runs.specs.OnTables.{stepping, writing, onTables, then, after, Allowed}
+use Rattle.runs.specs.OnTables.{writing, onTables, then, after, Allowed}
 use Rattle.runs.proofs.ImageBack.{ImageOf, writes, reads, kept, restore-of, SaneRun}
 use Rattle.runs.proofs.Lists.{fair-head, fair-tail}
 
@@ -96,7 +96,7 @@ module _ (n : ℕ) (low : 1 ≤ n) (few : n ≤ 16) (w : RunState Network) (sane
       go (no! i) = rw i
 
   onto-event : (m : ℕ) (e : Event) → Onto (event m e)
-  onto-event m e = ap (λ (o : Outcome). steppedTo (onto n w) e (stepping o)) (event-is m e)
+  onto-event m e = ap (λ (o : Outcome Said Tables). steppedTo (onto n w) e o) (event-is m e)
 
   pub save-is : (m : ℕ) (out : List ℕ) → saveOn m (tablesOf n (w .now)) out ≡ saveMeant n m out (w .now)
   unfolding saveOn saveChecked saveMeant
@@ -109,10 +109,10 @@ module _ (n : ℕ) (low : 1 ≤ n) (few : n ≤ 16) (w : RunState Network) (sane
       go (inl q) = rw (q, eq-eqb n n refl, passes, own-back)
       go (inr d) = rw (ne-eqb m n d, ← check-sizes m t (not-sized n low few (stateOf w) (sane .good) m d))
 
-  keep-onto : (o : Returned (List ℕ)) → savedTo (onto n w) o ≡ onto n (savedTo w o)
-  keep-onto o = go (choice (eqb (o .number) 0))
+  keep-onto : (o : Outcome ℕ (List ℕ)) → savedTo (onto n w) o ≡ onto n (savedTo w o)
+  keep-onto o = go (choice (eqb (o .said) 0))
     where
-      go : Choice (eqb (o .number) 0) → savedTo (onto n w) o ≡ onto n (savedTo w o)
+      go : Choice (eqb (o .said) 0) → savedTo (onto n w) o ≡ onto n (savedTo w o)
       go (yes! i) = rw i
       go (no! i) = rw i
 
