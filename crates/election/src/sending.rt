@@ -4,7 +4,7 @@ ghost use mathlib.Core.Bool.{true};
 ghost use Prim.Native.Nat.{_*_, _≤_, _<_, _^_};
 ghost use lib.ListN.{length};
 ghost use Rattle.height.specs.Words.{Negated};
-ghost use Rattle.protocol.specs.Network.{Node};
+ghost use Rattle.protocol.specs.Network.{Node, capacity};
 ghost use Rattle.basics.specs.Functions.{every};
 ghost use Rattle.tables.specs.Cell.{count, appended};
 ghost use Rattle.tables.specs.Tables.{cellWidth, channelOf, putChannel};

@@ -6,8 +6,9 @@ use mathlib.Core.List.{List, [], _∷_, _++_}
 use mathlib.Core.Logic.{_⊎_, inl, inr}
 use mathlib.Core.Path.{_≡_, sym, ap, _∙_}
 use lib.ListN.{length}
+use Rattle.refusal.specs.declared.Why.{Why}
 use Rattle.refusal.specs.Refusal.{why}
-use Rattle.refusal.specs.Outcome.{outcome}
+use Rattle.refusal.specs.Outcome.{outcome, Outcome}
 use Rattle.basics.specs.Functions.{afterAll, sayAll}
 use Rattle.election.specs.RunOn.{EventCall, tablesLeft, saidOn}
 use Rattle.lent.specs.Fresh.{freshOn}

@@ -7,7 +7,7 @@ use mathlib.Core.List.{List, [], _∷_, _++_, map}
 use mathlib.Core.Path.{_≡_, refl}
 use lib.ListN.{set, replicate}
 use Rattle.refusal.specs.Refusal.{why}
-use Rattle.refusal.specs.Outcome.{outcome, putFront, refusedWith}
+use Rattle.refusal.specs.Outcome.{accepted, outcome, putFront, refusedWith}
 use Rattle.bits.specs.Bits.{bits, number, unpacked, packed, field, spread, gathered}
 use Rattle.election.specs.StepOn.{stepAt, stepChecked, stepOn}
 use Rattle.height.specs.Height.{zeroLevel, levelKey, pairKey, heightKey}
@@ -125,8 +125,8 @@ separating =
 
 abbrev pub answers : List Reply
 answers =
-    meeting ++ (toSave (saving (saidSaved 0 0 0 101) (older ++ replicate 19 0))
-    ∷ (settling ++ (toSave (saving (saidSaved 0 0 0 69) (younger ++ replicate 51 0))
+    meeting ++ (toSave (outcome (accepted 101) (older ++ replicate 19 0))
+    ∷ (settling ++ (toSave (outcome (accepted 69) (younger ++ replicate 51 0))
     ∷ (separating ++ (toRestore (why 10 0 0) ∷ toRestore (why 2 1 1) ∷ toRestore (why 0 0 0) ∷ settling)))))
 
 -- ---- what is shown

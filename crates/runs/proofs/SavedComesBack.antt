@@ -3,8 +3,9 @@
 use Prim.Native.Nat.{ℕ, _≤_}
 use mathlib.Core.List.{List, [], _∷_, _++_}
 use mathlib.Core.Path.{_≡_, refl, sym, ap, subst, _∙_}
+use Rattle.refusal.specs.declared.Why.{Why}
 use Rattle.refusal.specs.Refusal.{why}
-use Rattle.refusal.specs.Outcome.{outcome}
+use Rattle.refusal.specs.Outcome.{outcome, Outcome}
 use Rattle.protocol.specs.Network.{Network, fresh}
 use Rattle.calls.specs.Run.{Call, save, restore, Saved, RunState, startOfRun, savedAt, lastSave, act, perform}
 use Rattle.calls.specs.Run.{Fair, fairEvent, fairSave, fairSaved, fairRefused, AllFair, fairNil, fairCons}
@@ -100,7 +101,7 @@ module _ (n : ℕ) (low : 1 ≤ n) (few : n ≤ 16) where
       let r = not-forgotten onTables (onto n w) (save m out) b (k .saved) (k .last) in
       let again : Recorded b (r .0 .at) (onto n after-it) = subst (Recorded b (r .0 .at)) on (record { saved = r .0; last = r .1; same = refl }) in
       let back = restores after-it (call-sane n low few w (save m out) sane (fairSave m out)) b (r .0 .at) again in
-      record { saved = r .0; last = r .1; same = ap (λ (f : Filled). f .after) (sym back ∙ restores w sane b q k) }
+      record { saved = r .0; last = r .1; same = ap (λ (f : Outcome Why Tables). f .after) (sym back ∙ restores w sane b q k) }
 
   still-all : (w : RunState Network) → SaneRun n low few w → (b : List ℕ) (q : Tables) → Recorded b q (onto n w)
       → (cs : List Call) → AllFair onTables (onto n w) cs → Recorded b q (perform onTables (onto n w) cs)

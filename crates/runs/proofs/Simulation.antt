@@ -7,8 +7,9 @@ use mathlib.Core.Logic.{inl, inr}
 use mathlib.Core.Path.{_≡_, refl, sym, ap, subst, _∙_}
 use borrow.Author.Tests.{eq-eqb, ne-eqb}
 use lib.Dec.{eqb}
+use Rattle.protocol.specs.Answer.{Said}
 use Rattle.refusal.specs.Refusal.{why}
-use Rattle.refusal.specs.Outcome.{outcome, Outcome}
+use Rattle.refusal.specs.Outcome.{outcome, Outcome, Answered}
 use Rattle.election.specs.RunOn.{saidTo, called}
 use Rattle.election.specs.StepOn.{stepOn}
 use Rattle.election.proofs.RunLaws.{not-sized, one-call}
@@ -117,7 +118,7 @@ module _ (n : ℕ) (low : 1 ≤ n) (few : n ≤ 16) (w : RunState Network) (sane
       go (no! i) = rw i
 
   onto-save : (m : ℕ) (out : List ℕ) → Onto (save m out)
-  onto-save m out = ap (λ (o : SaveOutcome). savedTo (onto n w) (writing o)) (save-is m out) ∙ keep-onto (writing (saveMeant n m out p))
+  onto-save m out = ap (λ (o : Outcome (Answered ℕ) (List ℕ)). savedTo (onto n w) (writing o)) (save-is m out) ∙ keep-onto (writing (saveMeant n m out p))
 
   -- a restore of an earlier save's bytes says 0 and leaves the tables of the network at that save
   pub restore-is : (b : List ℕ) (s : Saved Network) → lastSave b (w .saves) ≡ savedAt s

@@ -3,6 +3,7 @@
 use Prim.Native.Nat.{ℕ, _≤_}
 use mathlib.Core.List.{List, [], _∷_, _++_}
 use mathlib.Core.Path.{_≡_, refl, sym, ap, ap₂, _∙_}
+use Rattle.protocol.specs.Answer.{Said}
 use Rattle.refusal.specs.Outcome.{Outcome}
 use Rattle.protocol.specs.Network.{Network, fresh}
 use Rattle.calls.specs.Run.{Call, event, save, restore, RunState, startOfRun, act, perform, AllFair}
@@ -53,7 +54,7 @@ now-behind n cs c ds =
 module _ (n : ℕ) (low : 1 ≤ n) (few : n ≤ 16) where
   reply-is : (w : RunState Network) (c : Call) → SaneRun n low few w → reply (tablesOf n (w .now)) c ≡ replyTo n (w .now) c
   unfolding reply replyTo
-  reply-is w (event m e) sane = ap (λ (o : Outcome). toEvent (o .said)) (event-is n low few w sane m e)
+  reply-is w (event m e) sane = ap (λ (o : Outcome Said Tables). toEvent (o .said)) (event-is n low few w sane m e)
   reply-is w (save m out) sane = ap toSave (save-is n low few w sane m out)
   reply-is w (restore b) sane = refl
 

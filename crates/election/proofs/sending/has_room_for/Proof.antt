@@ -8,6 +8,9 @@ returns : tie.Need-returns
 unfolding roomFor
 returns c = rw (c .before .contains .ensures, c .waiting .ensures, c .before .before .channel .ensures .0)
 
+cast-result : tie.Need-cast-result
+cast-result c = search needs
+
 pub has-room-for-spec : {M : Type 1} → statement M
 has-room-for-spec =
-    tie.close (tie.spec (λ c κs. search needs) (λ c κs. search needs) (λ c κs. search needs) returns)
+    tie.close (tie.spec (λ c κs. search needs) (λ c κs. search needs) (λ c κs. search needs) cast-result returns)
