@@ -7,9 +7,9 @@ use types.Run.{OneOf, miss}
 use Rattle.height.specs.Height.{zeroLevel}
 use Rattle.height.specs.declared.ReferenceLevel.{ReferenceLevel}
 use Rattle.protocol.specs.Answer.{carriedOut, saidRule}
-use Rattle.protocol.specs.declared.Rule.{Rule}
 use Rattle.protocol.specs.declared.Rule.the-variants.{ChannelUp, ElectSelf, StartNewRefLevel, NoChange, Ignored}
 use Rattle.protocol.specs.declared.Rule.the-variants.{ReflectRefLevel, PropagateLargestRefLevel, AdoptLpIfPriority, Reply}
+use Rattle.protocol.specs.declared.Rule.{Rule}
 use Rattle.protocol.proofs.Rule as rules
 
 -- ---- events

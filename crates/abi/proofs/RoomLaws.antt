@@ -8,22 +8,22 @@ use mathlib.Core.Logic.{_⊎_, inl, inr}
 use mathlib.Core.Path.{_≡_, refl, ap, _∙_}
 use borrow.Author.Tests.{le-leb}
 use lib.ListN.{length, length-append}
+use Rattle.basics.proofs.Tests.{equal?}
 use Rattle.image.specs.Image.{image}
 use Rattle.image.specs.Widths.{messageWidth, heightWidth, nodeWidth}
-use Rattle.lent.specs.Check.{checkOn}
-use Rattle.lent.proofs.SoundTables.{Words, sound-fits}
-use Rattle.protocol.specs.Network.{Node}
-use Rattle.basics.proofs.Tests.{equal?}
-use Rattle.refusal.specs.Outcome.{putFront}
 use Rattle.image_snapshot.specs.Save.{saveChecked, saveOn}
-use Rattle.tables.specs.Cell.{count}
-use Rattle.tables.specs.inner.Fit.{TablesFit}
-use Rattle.tables.specs.Load.{load}
-use Rattle.tables.specs.Rows.{rows}
-use Rattle.tables.specs.Tables.{Tables, channelOf}
 use Rattle.image_writing.specs.inner.Words.{cellBitsAt, cellsFromBits, cellsBits}
 use Rattle.image_writing.proofs.ImageLaws.{depth-16, counts, length-image}
 use Rattle.image_writing.proofs.LengthLaws.{own-none, length-cell, rows-le}
+use Rattle.lent.specs.Check.{checkOn}
+use Rattle.lent.proofs.SoundTables.{Words, sound-fits}
+use Rattle.protocol.specs.Network.{Node}
+use Rattle.refusal.specs.Outcome.{putFront}
+use Rattle.tables.specs.Cell.{count}
+use Rattle.tables.specs.Load.{load}
+use Rattle.tables.specs.Rows.{rows}
+use Rattle.tables.specs.Tables.{Tables, channelOf}
+use Rattle.tables.specs.inner.Fit.{TablesFit}
 use Rattle.abi.specs.Sizes.{imageLength}
 
 -- ---- the channels

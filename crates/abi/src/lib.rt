@@ -3,12 +3,12 @@
 ghost use mathlib.Core.Path.{_≡_};
 ghost use lib.Count.{ones};
 ghost use Rattle.election.specs.StepOn.{stepOn};
-ghost use Rattle.lent.specs.Check.{checkOn};
-ghost use Rattle.lent.specs.Fresh.{freshOn};
-ghost use Rattle.protocol.specs.Step.{up, down, receive};
 ghost use Rattle.image_snapshot.specs.ReadNode.{readNodeOn};
 ghost use Rattle.image_snapshot.specs.Restore.{restoreOn};
 ghost use Rattle.image_snapshot.specs.Save.{saveOn};
+ghost use Rattle.lent.specs.Check.{checkOn};
+ghost use Rattle.lent.specs.Fresh.{freshOn};
+ghost use Rattle.protocol.specs.Step.{up, down, receive};
 ghost use Rattle.refusal.specs.Outcome.{outcome};
 ghost use Rattle.tables.specs.Tables.{atEntry, atExit};
 ghost use Rattle.abi.specs.Report.{saidReport, saidCheckReport, saidSaveReport, saidNodeReport};

@@ -2,12 +2,12 @@
 use Prim.Native.Nat.{ℕ}
 use mathlib.Core.Path.{_≡_, ap, _∙_}
 use Rattle.protocol.specs.Answer.{Said, carriedOut, saidRule, saidRefused, said}
-use Rattle.protocol.specs.declared.Answer.{Answer}
 use Rattle.protocol.specs.declared.Answer.the-variants.{Done, Refused}
-use Rattle.refusal.specs.Refusal.{whyOf}
-use Rattle.refusal.specs.declared.Refusal.{Refusal}
+use Rattle.protocol.specs.declared.Answer.{Answer}
 use Rattle.protocol.specs.declared.Rule.{Rule}
 use Rattle.protocol.proofs.Said.{rule-said}
+use Rattle.refusal.specs.Refusal.{whyOf}
+use Rattle.refusal.specs.declared.Refusal.{Refusal}
 
 module _ (a : Answer) (rule : Rule) (set : ℕ) (e : a ≡ Done rule set) where
   done-said : said a ≡ carriedOut (saidRule rule 0 .value .rule) set (saidRule rule 0 .value .adoptedFrom) (saidRule rule 0 .value .levelTaken)

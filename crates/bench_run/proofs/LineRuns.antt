@@ -1,21 +1,21 @@
 -- One event line: the command that it names, carried out on the tables and printed.
 use Prim.Native.Nat.{ℕ, _+_, _≤_}
 use mathlib.Core.List.{List}
-use mathlib.Core.Path.{_≡_, refl, sym, ap, _∙_}
+use mathlib.Core.Path.{_≡_, sym, ap, _∙_}
 use lib.ListN.{length}
 use Rattle.commands.specs.Commands.{saidCommand, commandOf}
-use Rattle.commands.specs.declared.Command.{Command}
 use Rattle.commands.specs.declared.Command.the-variants.{Up, Down, Receive, Refused}
-use Rattle.refusal.proofs.RefusalLaws.{never-0}
-use Rattle.refusal.specs.Outcome.{Outcome, outcome}
-use Rattle.refusal.specs.Refusal.{whyOf}
-use Rattle.refusal.specs.declared.Refusal.{Refusal}
+use Rattle.commands.specs.declared.Command.{Command}
 use Rattle.election.specs.StepOn.{stepOn}
 use Rattle.protocol.specs.Answer.{Said, saidRefused}
 use Rattle.protocol.specs.Step.{up, down, receive}
+use Rattle.refusal.specs.Outcome.{Outcome, outcome}
+use Rattle.refusal.specs.Refusal.{whyOf}
+use Rattle.refusal.specs.declared.Refusal.{Refusal}
+use Rattle.refusal.proofs.RefusalLaws.{never-0}
 use Rattle.tables.specs.Tables.{Tables}
 use Rattle.text.specs.Text.{poured}
-use Rattle.bench_run.specs.Listing.{eventLine, saidLine, byEvent}
+use Rattle.bench_run.specs.Listing.{saidLine, byEvent}
 use Rattle.bench_run.specs.inner.OnTables.{commandLineOn, afterCommandOn}
 use Rattle.bench_run.proofs.PourLaws.{Poured}
 

@@ -6,14 +6,14 @@ use mathlib.Core.Bool.{Bool, true, false, cond}
 use mathlib.Core.List.{List, [], _∷_, _++_}
 use mathlib.Core.Path.{_≡_, refl, sym, ap, ap₂, _∙_}
 use lib.Dec.{eqb}
-use Rattle.refusal.specs.Outcome.{Outcome}
+use Rattle.calls.specs.History.{State, started, advance}
+use Rattle.calls.proofs.Good.{Good, good-started, good-advance}
 use Rattle.commands.specs.Commands.{SaidCommand, commandOf}
 use Rattle.election.proofs.RunLaws.{own-call}
 use Rattle.protocol.specs.Answer.{Said}
 use Rattle.protocol.specs.Network.{Node, Network, fresh}
-use Rattle.calls.specs.History.{State, started, advance}
 use Rattle.protocol.specs.Step.{Event}
-use Rattle.calls.proofs.Good.{Good, good-started, good-advance}
+use Rattle.refusal.specs.Outcome.{Outcome}
 use Rattle.tables.specs.Load.{tablesOf}
 use Rattle.tables.specs.Tables.{Tables}
 use Rattle.tables.proofs.Back.{storable, load-back}

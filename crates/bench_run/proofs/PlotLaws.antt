@@ -9,23 +9,23 @@ use borrow.Author.Tests.{ne-eqb, le-leb, lt-leb, ltb-true, ltb-false}
 use lib.Dec.{leb, ltb}
 use lib.ListN.{length, take, drop}
 use lib.Seq.{length-take-le}
-use Rattle.refusal.specs.declared.Why.{Why}
 use Rattle.basics.proofs.Tests.{clash, Choice, yes!, no!, choice}
 use Rattle.commands.specs.Commands.{linesOf, toNewline, headOf}
 use Rattle.commands.proofs.LineLaws.{lines-next}
 use Rattle.lent.specs.Fresh.{freshOn}
 use Rattle.lent.proofs.CheckLaws.{is-sized}
 use Rattle.protocol.specs.Network.{fresh}
+use Rattle.refusal.specs.Outcome.{Outcome, accepted, outcome, putFront, refusedWith}
+use Rattle.refusal.specs.Refusal.{why}
+use Rattle.refusal.specs.declared.Why.{Why}
 use Rattle.tables.specs.Load.{tablesOf}
 use Rattle.tables.specs.Tables.{Tables, tables, Sized}
 use Rattle.tables.proofs.Sizes.{rows-small, cells-small}
 use Rattle.text.specs.Text.{poured}
 use Rattle.text.proofs.TextLaws.{poured-all}
 use Rattle.bench_run.specs.Listing.{eventHead, stationHead, badPlot, eventLines, afterLines, stationLines, plotListing, headed, listing}
-use Rattle.bench_run.specs.inner.OnTables.{eventLinesOn, afterLinesOn, stationLineOn, stationLinesOn}
-use Rattle.refusal.specs.Outcome.{Outcome, accepted, outcome, putFront, refusedWith}
-use Rattle.refusal.specs.Refusal.{why}
 use Rattle.bench_run.specs.Run.{runOn}
+use Rattle.bench_run.specs.inner.OnTables.{eventLinesOn, afterLinesOn, stationLineOn, stationLinesOn}
 use Rattle.bench_run.proofs.Listings.{events-same, stations-after}
 use Rattle.bench_run.proofs.PourLaws.{Poured, then}
 

@@ -3,9 +3,9 @@ ghost use mathlib.Core.List.{[], _∷_, _++_};
 ghost use mathlib.Core.Path.{_≡_};
 ghost use Prim.Native.Nat.{_+_, _^_, _≤_, _<_};
 ghost use lib.ListN.{length};
-ghost use Rattle.bench_run.specs.Listing.{eventHead, stationHead, badPlot, eventLine, saidLine, stationLine};
 ghost use Rattle.protocol.specs.Answer.{said};
 ghost use Rattle.text.specs.Text.{poured, decimal};
+ghost use Rattle.bench_run.specs.Listing.{eventHead, stationHead, badPlot, eventLine, saidLine, stationLine};
 use protocol::Answer;
 
 pub fn put_event_head(out: &mut [u8], at: usize) -> usize

@@ -1,11 +1,11 @@
 // The listing of an input: the plot that its first line names, or "bad plot".
 ghost use mathlib.Core.Path.{_≡_};
-ghost use Prim.Native.Nat.{_+_, _*_, _≤_, _<_};
+ghost use Prim.Native.Nat.{_*_, _≤_};
 ghost use lib.ListN.{length, drop};
-ghost use Rattle.bench_run.specs.Listing.{plotListing, listing};
 ghost use Rattle.commands.specs.Commands.{linesOf};
 ghost use Rattle.tables.specs.Tables.{given, Sized, width, cellWidth};
 ghost use Rattle.text.specs.Text.{poured};
+ghost use Rattle.bench_run.specs.Listing.{plotListing, listing};
 use tables::MOST_CHANNELS;
 use tables::MOST_NODES;
 

@@ -3,10 +3,10 @@ ghost use mathlib.Core.List.{[]};
 ghost use mathlib.Core.Path.{_≡_};
 ghost use Prim.Native.Nat.{_+_, _*_, _^_, _≤_, _<_};
 ghost use lib.ListN.{length};
-ghost use Rattle.bench_run.specs.inner.OnTables.{stationLineOn, stationLinesOn};
 ghost use Rattle.protocol.specs.Network.{Node};
 ghost use Rattle.tables.specs.Tables.{tables, width};
 ghost use Rattle.text.specs.Text.{poured};
+ghost use Rattle.bench_run.specs.inner.OnTables.{stationLineOn, stationLinesOn};
 
 // Node u's line.
 fn station(n: u32, u: u32, nodes: &[u32], out: &mut [u8], at: usize) -> usize

@@ -10,9 +10,9 @@ use lib.Pow.{pow-pos, pow-add}
 use lib.Seq.{take-all, getD-set-same, getD-set-other}
 use lib.Arith.{digits-lt}
 use Rattle.bits.specs.Bits.{bits, written, total, spread, wordBits}
-use Rattle.bits.proofs.Numbers.{Below, below-nil, below-append, length-bits, below-bits}
 use Rattle.bits.proofs.Bytes.{written-written}
 use Rattle.bits.proofs.Fields.{total-more, spread-more}
+use Rattle.bits.proofs.Numbers.{Below, below-nil, below-append, length-bits, below-bits}
 use Rattle.bits.proofs.Seeing.{total-narrow}
 use Rattle.bits.proofs.SixtyFour.{joins, fills}
 

@@ -10,9 +10,9 @@ use lib.Pow.{pow-pos, pow-add, shr-shr, shl-exact, pow-mono, shr-lt}
 use lib.Pow
 use lib.Arith.{digits-lt}
 use Rattle.bits.specs.Bits.{bits, number, unpacked, packed, over, field, written}
+use Rattle.bits.proofs.Bytes.{length-unpacked, packed-unpacked, unpacked-byte, unpacked-set, field-byte, field-add, field-lt}
 use Rattle.bits.proofs.Numbers.{length-bits, bits-add, take-bits, drop-bits, bits-mod, bits-cong, Below}
 use Rattle.bits.proofs.Overlay.{over-over, over-own, over-within}
-use Rattle.bits.proofs.Bytes.{length-unpacked, packed-unpacked, unpacked-byte, unpacked-set, field-byte, field-add, field-lt}
 
 pub one-shl : (n w : ℕ) → n < w → (1 * 2 ^ n) % 2 ^ w ≡ 2 ^ n
 one-shl n w h = shl-exact 1 n w (omega arith) (omega arith) ∙ one-mul (2 ^ n)

@@ -1,26 +1,26 @@
 -- Every state grown from the fresh network is good: it keeps the invariant, is within the ranges, and its history tells what it holds.
 -- The theorems read their statements off this one induction.
 use Prim.Native.Nat.{ℕ}
-use mathlib.Core.Bool.{true, cond}
+use mathlib.Core.Bool.{cond}
 use mathlib.Core.List.{List, [], _∷_}
 use mathlib.Core.Path.{_≡_, refl, sym, ap, _∙_}
 use borrow.Author.Tests.{eqb-true}
 use lib.Dec.{eqb}
-use Rattle.nodeset.specs.NodeSet.{setOf}
 use Rattle.basics.specs.Functions.{afterAll}
+use Rattle.basics.proofs.Tests.{Choice, yes!, no!, choice}
+use Rattle.nodeset.specs.NodeSet.{setOf}
 use Rattle.protocol.specs.Answer.{Said}
-use Rattle.calls.specs.History.{Told, State, started, entered, advance, grown}
 use Rattle.protocol.specs.Network.{Network}
 use Rattle.protocol.specs.Refusal.{returned, accepts, answer, next}
 use Rattle.protocol.specs.Step.{Event, local, step}
 use Rattle.protocol.proofs.Accepted.{accepts-accepted}
-use Rattle.calls.proofs.HistoryLaws.{event-told}
 use Rattle.protocol.proofs.Invariant.{Inv}
 use Rattle.protocol.proofs.Said.{rule-said}
-use Rattle.protocol.proofs.StepKeeps.{step-keeps, fresh-inv}
 use Rattle.protocol.proofs.Soundness.{Fits, fresh-fits}
 use Rattle.protocol.proofs.StepFits.{step-fits}
-use Rattle.basics.proofs.Tests.{Choice, yes!, no!, choice}
+use Rattle.protocol.proofs.StepKeeps.{step-keeps, fresh-inv}
+use Rattle.calls.specs.History.{Told, State, started, entered, advance, grown}
+use Rattle.calls.proofs.HistoryLaws.{event-told}
 
 pub record Good (n : ℕ) (s : State) : Type 0 where
   pub inv : Inv n (s .network)

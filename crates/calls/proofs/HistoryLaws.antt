@@ -9,23 +9,23 @@ use mathlib.Core.Path.{_≡_, refl, sym, _∙_}
 use lib.Dec.{eqb}
 use lib.ListN.{length}
 use borrow.Author.Tests.{eq-eqb, ne-eqb}
-use Rattle.height.specs.Height.{zeroHeight}
-use Rattle.basics.proofs.Tests.{clash, Choice, yes!, no!, choice, SameOrNot, equal?, both-equal}
-use Rattle.nodeset.specs.NodeSet.{digit}
 use Rattle.basics.specs.Functions.{update}
-use Rattle.calls.specs.History.{History, turned, upIn, isSending, sentSince, receivedSince, Told, entry}
-use Rattle.protocol.specs.Step.{isDown, isReceipt, Event, up, down, receive, home, Local, carried, localUp, localDown}
+use Rattle.basics.proofs.FunctionsLaws.{update-at, update-off, row-at, row-off}
+use Rattle.basics.proofs.Tests.{clash, Choice, yes!, no!, choice, SameOrNot, equal?, both-equal}
+use Rattle.height.specs.Height.{zeroHeight}
+use Rattle.nodeset.specs.NodeSet.{digit}
 use Rattle.protocol.specs.Holds.{isEmpty}
 use Rattle.protocol.specs.Network.{Message, Network, upTo}
 use Rattle.protocol.specs.Refusal.{accepts, answer}
+use Rattle.protocol.specs.Step.{isDown, isReceipt, Event, up, down, receive, home, Local, carried, localUp, localDown}
 use Rattle.protocol.specs.Step.{localIgnored, localTaken, localReceipt, local, cleared, commit, step}
 use Rattle.protocol.proofs.Accepted.{Accepted}
 use Rattle.protocol.proofs.Channels.{length-post, cleared-down, cleared-receipt, cleared-off}
 use Rattle.protocol.proofs.Kept.{down-silent}
 use Rattle.protocol.proofs.RuleLaws.{byCases}
-use Rattle.calls.proofs.SentSet.{sent-member, answer-sent}
 use Rattle.protocol.proofs.Soundness.{Fits}
-use Rattle.basics.proofs.FunctionsLaws.{update-at, update-off, row-at, row-off}
+use Rattle.calls.specs.History.{History, turned, upIn, isSending, sentSince, receivedSince, Told, entry}
+use Rattle.calls.proofs.SentSet.{sent-member, answer-sent}
 
 -- ---- what a commit does to sets and counts
 

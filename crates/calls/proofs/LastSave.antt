@@ -8,8 +8,8 @@ use mathlib.Core.Path.{_≡_, refl, sym, ap, _∙_}
 use lib.Dec.{eqb}
 use borrow.Author.Tests.{eqb-true, eqb-false}
 use Rattle.basics.proofs.Tests.{clash, Choice, yes!, no!, choice}
-use Rattle.calls.specs.Run.{Call, event, save, restore, Calls, Saved, RunState, Earlier, savedAt, sameBytes, lastSave, act, perform}
 use Rattle.refusal.specs.Outcome.{Outcome}
+use Rattle.calls.specs.Run.{Call, event, save, restore, Calls, Saved, RunState, Earlier, savedAt, sameBytes, lastSave, act, perform}
 use Rattle.calls.proofs.SavesLaws.{same-bytes, bytes-same}
 
 module _ {A : Type 0} (calls : Calls A) (b : List ℕ) where

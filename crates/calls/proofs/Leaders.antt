@@ -7,17 +7,17 @@ use mathlib.Core.List.{[]}
 use mathlib.Core.Logic.{inl, inr}
 use mathlib.Core.Path.{_≡_, refl, sym, ap, _∙_, fun-ext}
 use lib.ListN.{length}
+use Rattle.basics.proofs.FunctionsLaws.{every-at, every-all}
 use Rattle.basics.proofs.Tests.{clash, SameOrNot, equal?, and-left, and-right}
-use Rattle.protocol.specs.Network.{Node, Two, Network, upTo, own}
-use Rattle.calls.specs.Component.{Quiescent, OneLeader}
-use Rattle.protocol.specs.Quiet.{pairQuiet, nodeQuiet, quiet}
-use Rattle.calls.specs.History.{History, upIn, waiting, Told, State}
 use Rattle.protocol.specs.Holds.{isEmpty}
+use Rattle.protocol.specs.Network.{Node, Two, Network, upTo, own}
+use Rattle.protocol.specs.Quiet.{pairQuiet, nodeQuiet, quiet}
 use Rattle.protocol.proofs.Channels.{no-length, is-empty}
+use Rattle.protocol.proofs.Soundness.{diagonal}
+use Rattle.calls.specs.Component.{Quiescent, OneLeader}
+use Rattle.calls.specs.History.{History, upIn, waiting, Told, State}
 use Rattle.calls.proofs.Good.{Good}
 use Rattle.calls.proofs.Quiescence.{held, one-leader}
-use Rattle.protocol.proofs.Soundness.{diagonal}
-use Rattle.basics.proofs.FunctionsLaws.{every-at, every-all}
 
 pub quiet-leader : (n : ℕ) (s : State) → Good n s → Quiescent n (upIn (s .history)) (waiting (s .history))
     → (u : ℕ) → Node n u → OneLeader n (upIn (s .history)) (own (s .network)) u

@@ -9,21 +9,21 @@ use mathlib.Core.Path.{_≡_, refl, sym, subst, _∙_}
 use lib.IntN.{ℤ}
 use lib.ListN.{length}
 use borrow.Author.Tests.{ne-eqb}
+use Rattle.basics.specs.Functions.{every}
+use Rattle.basics.proofs.FunctionsLaws.{Found, every-not}
+use Rattle.basics.proofs.Tests.{clash, Choice, yes!, no!, choice, equal?}
 use Rattle.height.specs.Height.{heightKey, levelKey, pairKey}
 use Rattle.height.specs.Order.{before, same}
-use Rattle.basics.proofs.Tests.{clash, Choice, yes!, no!, choice, equal?}
 use Rattle.height.proofs.OrderLaws.{before-total, before-irrefl, before-trans, same-refl}
 use Rattle.nodeset.specs.NodeSet.{sizeOf}
 use Rattle.protocol.specs.Network.{Node, Two, Network, upTo, own}
-use Rattle.calls.specs.Component.{Quiescent, Linked, Joined, alone, link, Descending, arrived, falls, Leader, OneLeader}
-use Rattle.basics.specs.Functions.{every}
 use Rattle.protocol.specs.Sink.{above, sink}
 use Rattle.protocol.proofs.Channels.{no-length}
-use Rattle.calls.proofs.CountLaws.{sizeOf-lt}
 use Rattle.protocol.proofs.Invariant.{sideOf, Inv}
 use Rattle.protocol.proofs.LinkLaws.{Link}
 use Rattle.protocol.proofs.RuleLaws.{PairLe}
-use Rattle.basics.proofs.FunctionsLaws.{Found, every-not}
+use Rattle.calls.specs.Component.{Quiescent, Linked, Joined, alone, link, Descending, arrived, falls, Leader, OneLeader}
+use Rattle.calls.proofs.CountLaws.{sizeOf-lt}
 
 abbrev pub held : Network → ℕ → ℕ → ℕ
 held p u v = length (p .channel u v)

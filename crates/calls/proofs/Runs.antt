@@ -6,22 +6,22 @@ use mathlib.Core.List.{List}
 use mathlib.Core.Path.{_≡_, sym, ap, _∙_}
 use lib.Dec.{eqb}
 use borrow.Author.Tests.{eqb-true, ne-eqb}
-use Rattle.protocol.specs.Network.{Node, Network, fresh, own, restrict}
-use Rattle.calls.specs.Component.{Quiescent, OneLeader}
-use Rattle.calls.specs.History.{upIn, waiting, Told, State, advance}
-use Rattle.protocol.specs.Holds.{sound}
-use Rattle.calls.specs.Run.{Call, Saved, RunState, startOfRun, savedAt, lastSave, steppedTo, keeping}
-use Rattle.protocol.specs.Answer.{Said}
-use Rattle.refusal.specs.Outcome.{Outcome}
-use Rattle.calls.specs.Run.{act, Fair, fairEvent, fairSave, fairSaved, fairRefused, meant}
 use Rattle.basics.proofs.AllOf.{AllOf, none, more}
-use Rattle.calls.proofs.Good.{Good, good-started, good-advance}
+use Rattle.basics.proofs.Tests.{Choice, yes!, no!, choice}
+use Rattle.protocol.specs.Answer.{Said}
+use Rattle.protocol.specs.Holds.{sound}
+use Rattle.protocol.specs.Network.{Node, Network, fresh, own, restrict}
 use Rattle.protocol.proofs.Holding.{sound-holds}
-use Rattle.calls.proofs.Leaders.{quiet-leader}
 use Rattle.protocol.proofs.Restrict.{restrict-is}
 use Rattle.protocol.proofs.RuleLaws.{byCases}
+use Rattle.refusal.specs.Outcome.{Outcome}
+use Rattle.calls.specs.Component.{Quiescent, OneLeader}
+use Rattle.calls.specs.History.{upIn, waiting, Told, State, advance}
+use Rattle.calls.specs.Run.{Call, Saved, RunState, startOfRun, savedAt, lastSave, steppedTo, keeping}
+use Rattle.calls.specs.Run.{act, Fair, fairEvent, fairSave, fairSaved, fairRefused, meant}
+use Rattle.calls.proofs.Good.{Good, good-started, good-advance}
+use Rattle.calls.proofs.Leaders.{quiet-leader}
 use Rattle.calls.proofs.SavesLaws.{found}
-use Rattle.basics.proofs.Tests.{Choice, yes!, no!, choice}
 
 -- what is promised of a state: the history tells what the network holds, and a quiet network has one leader in each component
 pub record Promise (n : ℕ) (s : State) : Type 0 where

@@ -7,13 +7,13 @@ use mathlib.Core.List.{List, [], _∷_}
 use mathlib.Core.Path.{_≡_, refl, sym, ap, _∙_}
 use lib.Dec.{eqb}
 use borrow.Author.Tests.{eqb-true, eq-eqb, ne-eqb}
+use Rattle.basics.proofs.AllOf.{AllOf, more}
 use Rattle.basics.proofs.Tests.{clash, not-true-is-false, Choice, yes!, no!, choice, and-left, and-right, and-both}
+use Rattle.protocol.specs.Step.{Event}
+use Rattle.refusal.specs.Outcome.{Outcome}
 use Rattle.calls.specs.History.{entry}
 use Rattle.calls.specs.Run.{Call, event, save, restore, Calls, Saved, RunState, startOfRun, Earlier, savedAt, sameBytes, lastSave, historyAt}
-use Rattle.refusal.specs.Outcome.{Outcome}
 use Rattle.calls.specs.Run.{act}
-use Rattle.protocol.specs.Step.{Event}
-use Rattle.basics.proofs.AllOf.{AllOf, more}
 
 -- ---- the test of two lists of bytes is equality
 

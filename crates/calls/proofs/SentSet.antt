@@ -6,6 +6,7 @@ use mathlib.Core.Bool.{true, _||_}
 use mathlib.Core.List.{List, [], _∷_}
 use mathlib.Core.Logic.{_⊎_, inl, inr}
 use mathlib.Core.Path.{_≡_, refl, sym, ap, _∙_}
+use Rattle.basics.proofs.FunctionsLaws.{update-at}
 use Rattle.basics.proofs.Tests.{not-true-is-false}
 use Rattle.nodeset.specs.NodeSet.{member, setOf}
 use Rattle.nodeset.proofs.Members.{member-setOf-all}
@@ -19,7 +20,6 @@ use Rattle.protocol.proofs.RuleLaws.{byCases}
 use Rattle.protocol.proofs.Said.{rule-said}
 use Rattle.protocol.proofs.Soundness.{Fits, sends-in, either}
 use Rattle.protocol.proofs.StepFits.{step-fits}
-use Rattle.basics.proofs.FunctionsLaws.{update-at}
 
 -- every event sends by its rule
 abbrev SentBy : ℕ → Local → ℕ → Type 0

@@ -4,19 +4,19 @@ use Prim.Native.Nat.{ℕ}
 use mathlib.Core.Bool.{true, false}
 use mathlib.Core.List.{List, [], _∷_}
 use mathlib.Core.Path.{_≡_, refl}
-use Rattle.protocol.specs.Network.{Node, Network, own, restrict}
 use Rattle.basics.specs.Functions.{afterAll}
-use Rattle.calls.specs.Component.{Quiescent, OneLeader}
-use Rattle.calls.specs.History.{State, upIn, waiting, Told, advance, grown}
 use Rattle.protocol.specs.Holds.{sound}
+use Rattle.protocol.specs.Network.{Node, Network, own, restrict}
 use Rattle.protocol.specs.Refusal.{next}
 use Rattle.protocol.specs.Sink.{sink}
 use Rattle.protocol.specs.Step.{Event}
 use Rattle.protocol.specs.Times.{timely}
-use Rattle.calls.proofs.Good.{Good, good-grown}
 use Rattle.protocol.proofs.Holding.{sound-holds, timely-holds}
-use Rattle.calls.proofs.Leaders.{quiet-leader}
 use Rattle.protocol.proofs.Restrict.{restrict-is}
+use Rattle.calls.specs.Component.{Quiescent, OneLeader}
+use Rattle.calls.specs.History.{State, upIn, waiting, Told, advance, grown}
+use Rattle.calls.proofs.Good.{Good, good-grown}
+use Rattle.calls.proofs.Leaders.{quiet-leader}
 
 -- 1. it breaks no rule of "What a station holds", holds nothing beyond node n, its times make sense, and no node is a sink
 pub record Steady (n : ℕ) (p : Network) : Type 0 where

@@ -3,8 +3,8 @@
 use Prim.Native.Nat.{ℕ}
 use mathlib.Core.Bool.{Bool, true}
 use mathlib.Core.Path.{_≡_}
-use Rattle.height.specs.Order.{before}
 use Rattle.height.specs.Height.{heightKey}
+use Rattle.height.specs.Order.{before}
 use Rattle.height.specs.declared.Height.{Height}
 use Rattle.protocol.specs.Network.{Node, Two}
 

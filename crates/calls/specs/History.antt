@@ -6,8 +6,8 @@ use mathlib.Core.List.{List, [], _∷_}
 use mathlib.Core.Path.{_≡_}
 use lib.Dec.{eqb}
 use lib.ListN.{length}
-use Rattle.nodeset.specs.NodeSet.{member, digit}
 use Rattle.basics.specs.Functions.{afterAll}
+use Rattle.nodeset.specs.NodeSet.{member, digit}
 use Rattle.protocol.specs.Answer.{Said}
 use Rattle.protocol.specs.Network.{Network, upTo, fresh}
 use Rattle.protocol.specs.Refusal.{answer, next}

@@ -6,13 +6,13 @@ use mathlib.Core.List.{List, [], _∷_}
 use mathlib.Core.Path.{_≡_}
 use lib.Dec.{eqb}
 use Rattle.basics.specs.Functions.{afterAll}
-use Rattle.refusal.specs.Outcome.{Outcome, outcome}
-use Rattle.refusal.specs.Refusal.{why}
 use Rattle.protocol.specs.Answer.{Said, saidRefused}
-use Rattle.calls.specs.History.{History, entered}
 use Rattle.protocol.specs.Network.{Network}
 use Rattle.protocol.specs.Refusal.{answer, next}
 use Rattle.protocol.specs.Step.{Event}
+use Rattle.refusal.specs.Outcome.{Outcome, outcome}
+use Rattle.refusal.specs.Refusal.{why}
+use Rattle.calls.specs.History.{History, entered}
 
 pub data Call : Type 0 where
   event : ℕ → Event → Call  -- event m e: e on tables said to be of m nodes

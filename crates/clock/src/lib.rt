@@ -1,9 +1,9 @@
 // The clock, lent and advanced where the firmware keeps it (document 01, "The clock").
 // Takes any clock and any stamp; a refused call leaves the clock as it was.
 ghost use mathlib.Core.Path.{_≡_};
-ghost use Rattle.clock.specs.Advance.{advanceOn};
 ghost use Rattle.height.specs.Clock.{saidMoved};
 ghost use Rattle.refusal.specs.Outcome.{outcome};
+ghost use Rattle.clock.specs.Advance.{advanceOn};
 use height::Moved;
 use height::Time;
 

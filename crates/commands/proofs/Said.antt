@@ -7,8 +7,8 @@ use lib.Dec.{eqb, ltb}
 use lib.ListN.{getD}
 use Rattle.refusal.proofs.RefusalLaws.{reasonFrom, reason-back}
 use Rattle.commands.specs.Commands.{SaidCommand, saidEvent, saidMalformed, saidCommand, none, named, commandOf}
-use Rattle.commands.specs.declared.Command.{Command}
 use Rattle.commands.specs.declared.Command.the-variants.{Up, Down, Receive, Refused}
+use Rattle.commands.specs.declared.Command.{Command}
 
 -- ---- the command from what it says
 

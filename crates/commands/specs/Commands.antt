@@ -8,8 +8,8 @@ use lib.ListN.{getD, take, drop}
 use Rattle.refusal.specs.Outcome.{Answered, accepted, refusedWith}
 use Rattle.refusal.specs.Refusal.{why, whyOf}
 use Rattle.refusal.specs.declared.Why.{Why}
-use Rattle.commands.specs.declared.Command.{Command}
 use Rattle.commands.specs.declared.Command.the-variants.{Up, Down, Receive, Refused}
+use Rattle.commands.specs.declared.Command.{Command}
 
 -- ---- lines: a newline (10) ends one, and nothing stands after the last
 

@@ -2,15 +2,15 @@
 use Prim.Native.Nat.{ℕ}
 use mathlib.Core.Bool.{Bool, cond, _||_}
 use mathlib.Core.List.{List}
+use Rattle.basics.specs.Functions.{update}
 use Rattle.height.specs.declared.Height.{Height}
 use Rattle.nodeset.specs.NodeSet.{member}
-use Rattle.basics.specs.Functions.{update}
 use Rattle.protocol.specs.Refusal.{tooDeep}
 use Rattle.protocol.specs.Step.{heightAfter, sends}
 use Rattle.protocol.specs.declared.Rule.{Rule}
 use Rattle.tables.specs.Row.{heightIn}
-use Rattle.decision.specs.declared.After.{After}
 use Rattle.decision.specs.declared.After.the-variants.{New, TooDeep}
+use Rattle.decision.specs.declared.After.{After}
 
 -- the row's heights, with this view of v
 abbrev pub seen : List ℕ → ℕ → Height → ℕ → Height

@@ -2,9 +2,9 @@
 ghost use mathlib.Core.Path.{_≡_};
 ghost use Prim.Native.Nat.{_≤_};
 ghost use lib.ListN.{length};
+ghost use Rattle.basics.specs.Functions.{every};
 ghost use Rattle.height.specs.Words.{Negated};
 ghost use Rattle.nodeset.specs.NodeSet.{member};
-ghost use Rattle.basics.specs.Functions.{every};
 ghost use Rattle.protocol.specs.Network.{Node};
 ghost use Rattle.protocol.specs.Rules.{ofLevel, larger, largest, deltas, smaller, smallest};
 ghost use Rattle.tables.specs.Tables.{width};

@@ -6,25 +6,25 @@ use mathlib.Core.List.{List, map, tail}
 use mathlib.Core.Path.{_≡_, refl, sym, ap, _∙_}
 use lib.Dec.{eqb}
 use borrow.Author.Tests.{eqb-true, eq-eqb}
-use Rattle.refusal.specs.Outcome.{outcome}
 use Rattle.basics.proofs.Tests.{clash, Choice, yes!, no!, choice}
 use Rattle.lent.specs.Check.{checkOn}
 use Rattle.lent.proofs.SoundTables.{Words, sound-fits}
 use Rattle.nodeset.specs.NodeSet.{setOf}
 use Rattle.protocol.specs.Answer.{saidRule, saidRefused}
 use Rattle.protocol.specs.Network.{Node, Message, Network}
-use Rattle.protocol.specs.Step.{isReceipt, Event, receive, home, local}
 use Rattle.protocol.specs.Refusal.{returned, accepts, answer, next}
-use Rattle.protocol.specs.declared.Rule.{Rule}
+use Rattle.protocol.specs.Step.{isReceipt, Event, receive, home, local}
 use Rattle.protocol.specs.declared.Rule.the-variants.{ChannelUp, ElectSelf, StartNewRefLevel, NoChange, Ignored}
 use Rattle.protocol.specs.declared.Rule.the-variants.{ReflectRefLevel, PropagateLargestRefLevel, AdoptLpIfPriority, Reply}
+use Rattle.protocol.specs.declared.Rule.{Rule}
 use Rattle.protocol.proofs.Accepted.{home-node, peer-node, accepts-accepted}
 use Rattle.protocol.proofs.Locality.{other-records, other-channels, received-channel}
+use Rattle.refusal.specs.Outcome.{outcome}
 use Rattle.tables.specs.Cell.{queue, messageWords}
-use Rattle.tables.specs.inner.Fit.{TablesFit}
 use Rattle.tables.specs.Load.{load, tablesOf}
 use Rattle.tables.specs.Records.{cellWords}
 use Rattle.tables.specs.Tables.{Tables, nodeOf, channelOf}
+use Rattle.tables.specs.inner.Fit.{TablesFit}
 use Rattle.tables.proofs.Back.{node-of, cell-of}
 use Rattle.tables.proofs.RecordsLaws.{network-row}
 use Rattle.tables.proofs.TablesLaws.{load-channel, tables-back}

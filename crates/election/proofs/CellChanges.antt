@@ -7,18 +7,18 @@ use mathlib.Core.Logic.{_⊎_, inl, inr}
 use mathlib.Core.Path.{_≡_, refl, sym, ap, _∙_}
 use lib.Dec.{eqb}
 use borrow.Author.Tests.{eq-eqb, ne-eqb}
-use Rattle.height.specs.declared.Height.{Height}
+use Rattle.basics.specs.Functions.{update}
+use Rattle.basics.proofs.FunctionsLaws.{update-at, update-off}
 use Rattle.basics.proofs.Tests.{clash, not-true-is-false, Choice, yes!, no!, choice, equal?}
+use Rattle.height.specs.declared.Height.{Height}
 use Rattle.nodeset.specs.NodeSet.{member}
 use Rattle.protocol.specs.Network.{Node, Message, isNode, fresh, atPairs}
-use Rattle.basics.specs.Functions.{update}
 use Rattle.protocol.specs.Step.{cleared, post}
 use Rattle.protocol.proofs.NodeLaws.{node-passes}
-use Rattle.basics.proofs.FunctionsLaws.{update-at, update-off}
 use Rattle.tables.specs.Cell.{count, queue, appended, taken, emptied}
-use Rattle.tables.specs.inner.Fit.{CellFits}
 use Rattle.tables.specs.Load.{load, messagesOn}
 use Rattle.tables.specs.Tables.{Tables, tables, channelOf}
+use Rattle.tables.specs.inner.Fit.{CellFits}
 use Rattle.tables.proofs.CellLaws.{queue-appended, appended-fits, queue-taken, taken-fits, queue-emptied, emptied-fits}
 use Rattle.tables.proofs.ChangeLaws.{changed-pairs}
 use Rattle.tables.proofs.TablesLaws.{load-channel}

@@ -1,19 +1,19 @@
 -- An event on any tables, by what the check of the tables answers: refusal 1, refusal 2 with its pair, or on to `stepAt` on tables that fit.
 use Prim.Native.Nat.{ℕ}
 use mathlib.Core.Path.{_≡_, sym, ap, _∙_}
-use Rattle.refusal.specs.declared.Why.{Why}
-use Rattle.refusal.specs.Refusal.{whyOf}
-use Rattle.refusal.specs.Outcome.{outcome}
 use Rattle.lent.specs.Check.{saidCheck, checkOn}
-use Rattle.lent.specs.declared.Checked.{Checked}
 use Rattle.lent.specs.declared.Checked.the-variants.{Sound, Refused}
-use Rattle.refusal.proofs.RefusalLaws.{never-0}
-use Rattle.refusal.specs.declared.Refusal.{Refusal}
+use Rattle.lent.specs.declared.Checked.{Checked}
 use Rattle.lent.proofs.SoundTables.{Words, sound-fits}
 use Rattle.protocol.specs.Answer.{saidRefused}
 use Rattle.protocol.specs.Step.{Event}
-use Rattle.tables.specs.inner.Fit.{TablesFit}
+use Rattle.refusal.specs.Outcome.{outcome}
+use Rattle.refusal.specs.Refusal.{whyOf}
+use Rattle.refusal.specs.declared.Refusal.{Refusal}
+use Rattle.refusal.specs.declared.Why.{Why}
+use Rattle.refusal.proofs.RefusalLaws.{never-0}
 use Rattle.tables.specs.Tables.{Tables}
+use Rattle.tables.specs.inner.Fit.{TablesFit}
 use Rattle.election.specs.StepOn.{stepAt, stepChecked, stepOn}
 
 module _ (n : ℕ) (t : Tables) {r : Checked} (answers : saidCheck r ≡ checkOn n t) where

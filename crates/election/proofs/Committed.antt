@@ -7,20 +7,20 @@ use mathlib.Core.List.{List}
 use mathlib.Core.Logic.{_⊎_, inl, inr}
 use mathlib.Core.Path.{_≡_, sym, ap, _∙_}
 use lib.ListN.{length}
+use Rattle.basics.specs.Functions.{update}
+use Rattle.basics.proofs.FunctionsLaws.{update-at}
+use Rattle.basics.proofs.Tests.{equal?}
 use Rattle.decision.specs.After.{seen, sendsTo}
 use Rattle.decision.specs.declared.Decision.{Decision}
 use Rattle.height.specs.declared.Height.{Height}
 use Rattle.nodeset.specs.NodeSet.{member, setOf}
 use Rattle.protocol.specs.Network.{Node, fresh}
-use Rattle.basics.specs.Functions.{update}
 use Rattle.protocol.specs.Step.{carried, heightAfter, cleared, commit, post}
-use Rattle.basics.proofs.Tests.{equal?}
-use Rattle.basics.proofs.FunctionsLaws.{update-at}
 use Rattle.tables.specs.Cell.{count}
-use Rattle.tables.specs.inner.Fit.{RowFits, TablesFit}
 use Rattle.tables.specs.Load.{load, tablesOf, clockAt, neighborsAt, formingAt, heightsAt}
 use Rattle.tables.specs.Row.{clockIn, neighborsIn, formingIn, heightIn, putHeight}
 use Rattle.tables.specs.Tables.{Tables, nodeOf, putNode}
+use Rattle.tables.specs.inner.Fit.{RowFits, TablesFit}
 use Rattle.tables.proofs.ChangeLaws.{changed-nodes}
 use Rattle.tables.proofs.RowLaws.{put-fits, put-heights, headed-fits, headed-heights, headed-clock, headed-neighbors, headed-forming}
 use Rattle.tables.proofs.RowsLaws.{node-put, node-other, node-put-length}

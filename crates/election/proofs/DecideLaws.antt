@@ -8,16 +8,14 @@ use mathlib.Core.Path.{_≡_, refl, sym, ap, _∙_}
 use lib.ListN.{length}
 use lib.Pow.{pow-mono}
 use borrow.Author.Tests.{lt-ltb}
-use Rattle.refusal.specs.Refusal.{why}
-use Rattle.refusal.specs.Outcome.{outcome}
 use Rattle.decision.specs.After.{seen}
 use Rattle.decision.specs.inner.Bounds.{AdoptsNode}
 use Rattle.height.specs.Clock.{lastTime, saidMoved, clockAfter}
 use Rattle.height.specs.Height.{zeroHeight}
 use Rattle.height.specs.Words.{Negated}
 use Rattle.height.specs.declared.Height.{Height}
-use Rattle.height.specs.declared.Moved.{Moved}
 use Rattle.height.specs.declared.Moved.the-variants.{To, AtEnd}
+use Rattle.height.specs.declared.Moved.{Moved}
 use Rattle.height.specs.declared.Time.{Time}
 use Rattle.nodeset.specs.NodeSet.{member}
 use Rattle.protocol.specs.Answer.{saidRefused}
@@ -25,17 +23,19 @@ use Rattle.protocol.specs.Network.{Node}
 use Rattle.protocol.specs.Refusal.{unfit, late}
 use Rattle.protocol.specs.Rules.{downRule, receiptRule}
 use Rattle.protocol.specs.Step.{up, down, receive, local, carried}
-use Rattle.protocol.specs.declared.Rule.{Rule}
 use Rattle.protocol.specs.declared.Rule.the-variants.{ChannelUp, Ignored}
+use Rattle.protocol.specs.declared.Rule.{Rule}
 use Rattle.protocol.proofs.RuleCases.{Verdict, isA, isR, isQ, isF, isE, isS, isP, verdict, downCases}
+use Rattle.refusal.specs.Outcome.{outcome}
+use Rattle.refusal.specs.Refusal.{why}
 use Rattle.tables.specs.Cell.{count, messageAt}
-use Rattle.tables.specs.inner.Fit.{RowFits}
 use Rattle.tables.specs.Load.{load, neighborsAt, formingAt}
 use Rattle.tables.specs.Row.{clockIn, neighborsIn, formingIn, heightIn}
 use Rattle.tables.specs.Tables.{Tables, nodeOf, channelOf}
+use Rattle.tables.specs.inner.Fit.{RowFits}
 use Rattle.election.specs.StepOn.{stepAt}
-use Rattle.election.specs.declared.Kind.{Kind}
 use Rattle.election.specs.declared.Kind.the-variants.{Raised, Dropped, Received}
+use Rattle.election.specs.declared.Kind.{Kind}
 use Rattle.election.specs.inner.Deciding.{Between, Ready, eventOf}
 use Rattle.election.proofs.EventLaws.{between-named, up-is, local-up, local-down, receive-unfit, receive-fit, local-ignored, local-heard}
 use Rattle.election.proofs.SetChanges.{joined, without, insert-lt, remove-lt}

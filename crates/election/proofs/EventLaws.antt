@@ -4,9 +4,11 @@ use Prim.Native.Nat.{ℕ, zero, suc, max, _+_, _≤_}
 use native.Mathlib.Omega.{arith}
 use mathlib.Core.Bool.{true, false, not, _&&_, _||_}
 use mathlib.Core.List.{List, _∷_}
-use mathlib.Core.Path.{_≡_, refl, sym, ap, _∙_}
+use mathlib.Core.Path.{_≡_, refl, ap, _∙_}
 use lib.Dec.{eqb, leb}
 use borrow.Author.Tests.{ne-eqb, not-true, leb-true, eqb-false}
+use Rattle.basics.proofs.FunctionsLaws.{update-self}
+use Rattle.basics.proofs.Tests.{and-left, and-right}
 use Rattle.decision.specs.After.{seen}
 use Rattle.height.specs.Height.{zeroHeight}
 use Rattle.nodeset.specs.NodeSet.{member}
@@ -16,17 +18,15 @@ use Rattle.protocol.specs.Refusal.{misnamed, unfit}
 use Rattle.protocol.specs.Rules.{downRule, receiptRule}
 use Rattle.protocol.specs.Step.{up, down, receive, local, localUp, localDown, localIgnored, localTaken, localReceipt, carried}
 use Rattle.protocol.specs.declared.Rule.the-variants.{ChannelUp, Ignored}
-use Rattle.basics.proofs.Tests.{and-left, and-right}
 use Rattle.protocol.proofs.NodeLaws.{node-passes}
-use Rattle.basics.proofs.FunctionsLaws.{update-self}
 use Rattle.tables.specs.Cell.{count, messageAt, messagesAt, queue}
-use Rattle.tables.specs.inner.Fit.{TablesFit}
 use Rattle.tables.specs.Load.{load, neighborsAt, formingAt}
 use Rattle.tables.specs.Row.{clockIn, neighborsIn, formingIn, heightIn}
 use Rattle.tables.specs.Tables.{Tables, nodeOf, channelOf}
+use Rattle.tables.specs.inner.Fit.{TablesFit}
 use Rattle.tables.proofs.TablesLaws.{load-clock, load-neighbors, load-forming, load-height, load-channel}
-use Rattle.election.specs.declared.Kind.{Kind}
 use Rattle.election.specs.declared.Kind.the-variants.{Raised, Dropped, Received}
+use Rattle.election.specs.declared.Kind.{Kind}
 use Rattle.election.specs.inner.Deciding.{Between, eventOf}
 use Rattle.election.proofs.SetChanges.{joined, without, insert-members, remove-members}
 

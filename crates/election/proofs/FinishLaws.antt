@@ -2,7 +2,7 @@
 -- Assumes what was decided (`Ready`).
 use Prim.Native.Nat.{ℕ, zero, suc, _^_, _<_, _≤_}
 use native.Mathlib.Omega.{arith}
-use mathlib.Core.Bool.{Bool, true, false, not, _||_}
+use mathlib.Core.Bool.{Bool, true, false, not}
 use mathlib.Core.List.{List, _∷_, []}
 use mathlib.Core.Path.{_≡_, refl, sym, ap, subst, _∙_}
 use denote.Enum.Declared.{tagOf}
@@ -11,36 +11,36 @@ use lib.Dec.{ltb}
 use lib.ListN.{length}
 use lib.Signed.{mag}
 use borrow.Author.Tests.{ltb-true, le-ltb}
-use Rattle.refusal.specs.Refusal.{why}
-use Rattle.refusal.specs.Outcome.{outcome}
 use Rattle.decision.specs.After.{seen, afterRule, sendsTo}
-use Rattle.decision.specs.declared.After.{After}
 use Rattle.decision.specs.declared.After.the-variants.{New, TooDeep}
+use Rattle.decision.specs.declared.After.{After}
 use Rattle.decision.specs.declared.Decision.{Decision}
 use Rattle.decision.specs.inner.Bounds.{NegatedAfter}
+use Rattle.refusal.specs.Outcome.{outcome}
+use Rattle.refusal.specs.Refusal.{why}
 use Rattle.decision.proofs.After as declared
+use Rattle.basics.specs.Functions.{every}
+use Rattle.basics.proofs.FunctionsLaws.{update-at, every-at}
+use Rattle.basics.proofs.Tests.{clash, Choice, yes!, no!, choice}
 use Rattle.height.specs.Clock.{lastTime}
 use Rattle.height.specs.Words.{Negated}
 use Rattle.height.specs.declared.Height.{Height}
-use Rattle.basics.proofs.Tests.{clash, Choice, yes!, no!, choice}
 use Rattle.height.proofs.WordsLaws.{negated-size}
 use Rattle.nodeset.specs.NodeSet.{member, setOf}
 use Rattle.protocol.specs.Answer.{saidRule, saidRefused}
 use Rattle.protocol.specs.Network.{Node, Network, capacity}
-use Rattle.basics.specs.Functions.{every}
 use Rattle.protocol.specs.Refusal.{late, tooDeep, hasRoom, crowded}
 use Rattle.protocol.specs.Step.{Local, down, home, local, localDown, carried, heightAfter, cleared}
 use Rattle.protocol.specs.declared.Rule.{Rule}
 use Rattle.protocol.proofs.Kept.{down-silent}
-use Rattle.basics.proofs.FunctionsLaws.{update-at, every-at}
 use Rattle.tables.specs.Cell.{count, queue}
 use Rattle.tables.specs.Load.{load}
 use Rattle.tables.specs.Tables.{Tables, nodeOf, putNode, channelOf}
 use Rattle.tables.proofs.CellLaws.{messages-length}
 use Rattle.tables.proofs.Wordy.{Wordy}
 use Rattle.election.specs.StepOn.{stepAt}
-use Rattle.election.specs.declared.Kind.{Kind}
 use Rattle.election.specs.declared.Kind.the-variants.{Raised, Dropped, Received}
+use Rattle.election.specs.declared.Kind.{Kind}
 use Rattle.election.specs.inner.Cells.{CellsAre, Takes, clearedCells, sentCells, roomFor}
 use Rattle.election.specs.inner.Deciding.{Between, Ready, eventOf, localOf, rowAfter}
 use Rattle.election.proofs.CellChanges.{cleared-at}

@@ -2,7 +2,6 @@
 -- Assumes that every word is one of 32 bits (`Words`).
 use Prim.Native.Nat.{ℕ}
 use mathlib.Core.Path.{_≡_, ap, _∙_}
-use Rattle.refusal.specs.Refusal.{why}
 use Rattle.lent.specs.Check.{checkOn}
 use Rattle.lent.proofs.SoundLoads.{sound-loads, load-inside}
 use Rattle.lent.proofs.SoundNetworks.{sound-check}
@@ -10,8 +9,9 @@ use Rattle.lent.proofs.SoundTables.{Words}
 use Rattle.protocol.specs.Refusal.{next}
 use Rattle.protocol.specs.Step.{Event}
 use Rattle.protocol.proofs.Holding.{sound-holds}
-use Rattle.protocol.proofs.Soundness.{Fits}
 use Rattle.protocol.proofs.SoundStep.{sound-fits, fits-next}
+use Rattle.protocol.proofs.Soundness.{Fits}
+use Rattle.refusal.specs.Refusal.{why}
 use Rattle.tables.specs.Load.{load}
 use Rattle.tables.specs.Tables.{Tables}
 use Rattle.tables.proofs.Back.{storable}

@@ -8,24 +8,24 @@ use mathlib.Core.Logic.{_⊎_, inl, inr}
 use mathlib.Core.Path.{_≡_, refl, sym}
 use lib.Dec.{eqb, ltb}
 use borrow.Author.Tests.{eq-eqb, ne-eqb, ltb-true, ltb-false}
-use Rattle.refusal.specs.Refusal.{why}
-use Rattle.refusal.specs.Outcome.{outcome}
+use Rattle.basics.specs.Functions.{afterAll, sayAll}
+use Rattle.basics.proofs.Tests.{equal?}
+use Rattle.calls.specs.History.{State, started, advance}
+use Rattle.calls.proofs.Good.{Good, good-started, good-advance}
+use Rattle.calls.proofs.Runs.{Promise, good-promise}
+use Rattle.calls.proofs.Theorems.{Steady, good-steady}
 use Rattle.lent.proofs.CheckLaws.{check-sizes}
 use Rattle.lent.proofs.SoundNetworks.{sound-check}
 use Rattle.protocol.specs.Answer.{saidRefused}
-use Rattle.calls.specs.History.{State, started, advance}
 use Rattle.protocol.specs.Refusal.{answer, next}
 use Rattle.protocol.specs.Step.{Event}
-use Rattle.calls.proofs.Good.{Good, good-started, good-advance}
 use Rattle.protocol.proofs.Holding.{sound-holds}
 use Rattle.protocol.proofs.RuleLaws.{byCases}
-use Rattle.calls.proofs.Runs.{Promise, good-promise}
-use Rattle.basics.proofs.Tests.{equal?}
-use Rattle.calls.proofs.Theorems.{Steady, good-steady}
+use Rattle.refusal.specs.Outcome.{outcome}
+use Rattle.refusal.specs.Refusal.{why}
 use Rattle.tables.specs.Load.{load, tablesOf}
 use Rattle.tables.specs.Tables.{sized, width}
 use Rattle.tables.proofs.Back.{Storable, storable, load-back, tables-sized}
-use Rattle.basics.specs.Functions.{afterAll, sayAll}
 use Rattle.election.specs.RunOn.{EventCall, tablesLeft, saidOn, called, saidTo}
 use Rattle.election.specs.StepOn.{stepAt, stepChecked, stepOn}
 

@@ -9,15 +9,15 @@ use lib.Dec.{eqb}
 use lib.ListN.{length, drop, replicate, length-set, length-append, length-drop, length-replicate}
 use lib.Pow.{pow-mono}
 use borrow.Author.Tests.{ltb-true, eq-eqb, ne-eqb}
-use Rattle.height.specs.declared.Height.{Height}
+use Rattle.basics.specs.Functions.{every}
+use Rattle.basics.proofs.FunctionsLaws.{every-at}
 use Rattle.basics.proofs.Tests.{clash, SameOrNot, equal?, not-both}
+use Rattle.height.specs.declared.Height.{Height}
 use Rattle.height.proofs.WordsLaws.{stored-length}
 use Rattle.nodeset.specs.NodeSet.{member, sameNode, inButNot, lowest}
 use Rattle.nodeset.proofs.Members.{none-in-zero, member-range}
 use Rattle.nodeset.proofs.Walk.{LowestNode, lowest-in, member-without, without-less}
 use Rattle.protocol.specs.Network.{Node}
-use Rattle.basics.specs.Functions.{every}
-use Rattle.basics.proofs.FunctionsLaws.{every-at}
 use Rattle.tables.specs.Cell.{count, appended, taken, emptied}
 use Rattle.tables.specs.Tables.{cellWidth, channelOf, putChannel}
 use Rattle.tables.proofs.RowsLaws.{channel-length, channel-put, channel-put-length, channel-other}

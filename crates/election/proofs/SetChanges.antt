@@ -7,15 +7,15 @@ use mathlib.Core.Logic.{_⊎_, inl, inr}
 use mathlib.Core.Path.{_≡_, refl, _∙_, fun-ext}
 use lib.Dec.{eqb}
 use borrow.Author.Tests.{eq-eqb, ne-eqb, eqb-true}
-use Rattle.decision.specs.After.{sendsTo}
+use Rattle.basics.specs.Functions.{update}
+use Rattle.basics.proofs.FunctionsLaws.{update-at, update-off}
 use Rattle.basics.proofs.Tests.{not-true-is-false, equal?, and-left}
+use Rattle.decision.specs.After.{sendsTo}
 use Rattle.nodeset.specs.NodeSet.{member, setOf, sameNode, inEither, inButNot}
 use Rattle.nodeset.proofs.Members.{member-setOf-all, setOf-within, setOf-more}
 use Rattle.protocol.specs.Network.{Node}
-use Rattle.basics.specs.Functions.{update}
 use Rattle.protocol.specs.declared.Rule.{Rule}
 use Rattle.protocol.proofs.Soundness.{sends-in, either}
-use Rattle.basics.proofs.FunctionsLaws.{update-at, update-off}
 pub use Rattle.tables.proofs.TablesLaws.{member-node}
 
 -- a set with v, and without v, as the code makes them

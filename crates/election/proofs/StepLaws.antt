@@ -6,8 +6,7 @@ use mathlib.Core.Bool.{true, false}
 use mathlib.Core.Path.{_≡_, sym, ap, _∙_}
 use lib.Dec.{ltb}
 use borrow.Author.Tests.{ne-eqb, ltb-true, ltb-false}
-use Rattle.refusal.specs.Refusal.{why}
-use Rattle.refusal.specs.Outcome.{outcome, Answered}
+use Rattle.basics.proofs.Tests.{Choice, yes!, no!, choice}
 use Rattle.height.specs.Clock.{lastTime, saidMoved, clockAfter}
 use Rattle.height.specs.declared.Moved.the-variants.{To, AtEnd}
 use Rattle.height.specs.declared.Time.{Time}
@@ -16,10 +15,11 @@ use Rattle.nodeset.specs.NodeSet.{setOf}
 use Rattle.protocol.specs.Answer.{saidRule, saidRefused}
 use Rattle.protocol.specs.Refusal.{misnamed, unfit, unfitNumber, late, tooDeep, crowded, returned, accepts, answer, next}
 use Rattle.protocol.specs.Step.{Event, home, Local, local, cleared, commit, step}
-use Rattle.basics.proofs.Tests.{Choice, yes!, no!, choice}
-use Rattle.tables.specs.inner.Fit.{TablesFit}
+use Rattle.refusal.specs.Outcome.{outcome, Answered}
+use Rattle.refusal.specs.Refusal.{why}
 use Rattle.tables.specs.Load.{load, tablesOf}
 use Rattle.tables.specs.Tables.{Tables}
+use Rattle.tables.specs.inner.Fit.{TablesFit}
 use Rattle.tables.proofs.TablesLaws.{tables-back}
 use Rattle.election.specs.StepOn.{stepAt}
 

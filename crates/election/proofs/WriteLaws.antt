@@ -6,16 +6,16 @@ use mathlib.Core.Logic.{_⊎_, inl, inr}
 use mathlib.Core.Path.{_≡_, refl, sym, _∙_}
 use lib.Dec.{ltb}
 use borrow.Author.Tests.{ne-eqb, not-false}
-use Rattle.height.specs.declared.Height.{Height}
-use Rattle.basics.proofs.Tests.{clash, equal?}
-use Rattle.nodeset.specs.NodeSet.{member}
-use Rattle.protocol.specs.Network.{Node}
 use Rattle.basics.specs.Functions.{every}
 use Rattle.basics.proofs.FunctionsLaws.{every-at, every-all}
+use Rattle.basics.proofs.Tests.{clash, equal?}
+use Rattle.height.specs.declared.Height.{Height}
+use Rattle.nodeset.specs.NodeSet.{member}
+use Rattle.protocol.specs.Network.{Node}
 use Rattle.tables.specs.Cell.{count}
 use Rattle.tables.specs.Tables.{channelOf}
-use Rattle.election.specs.declared.Kind.{Kind}
 use Rattle.election.specs.declared.Kind.the-variants.{Raised, Dropped, Received}
+use Rattle.election.specs.declared.Kind.{Kind}
 use Rattle.election.specs.inner.Cells.{CellsAre, cellsOf, clearedCells, sentCells, roomFor}
 
 -- `has_room` did not answer false

@@ -3,11 +3,11 @@
 use Prim.Native.Nat.{ℕ}
 use mathlib.Core.Bool.{cond}
 use lib.Dec.{eqb}
-use Rattle.refusal.specs.Refusal.{why}
-use Rattle.protocol.specs.Answer.{Said, saidRefused}
 use Rattle.calls.specs.History.{State, advance}
+use Rattle.protocol.specs.Answer.{Said, saidRefused}
 use Rattle.protocol.specs.Refusal.{answer}
 use Rattle.protocol.specs.Step.{Event}
+use Rattle.refusal.specs.Refusal.{why}
 use Rattle.tables.specs.Tables.{Tables}
 use Rattle.election.specs.StepOn.{stepOn}
 

@@ -3,12 +3,12 @@
 use Prim.Native.Nat.{ℕ}
 use mathlib.Core.Bool.{cond}
 use lib.Dec.{eqb}
-use Rattle.refusal.specs.declared.Why.{Why}
-use Rattle.refusal.specs.Outcome.{outcome, Outcome}
 use Rattle.lent.specs.Check.{checkOn}
 use Rattle.protocol.specs.Answer.{Said, saidRefused}
 use Rattle.protocol.specs.Refusal.{answer, next}
 use Rattle.protocol.specs.Step.{Event}
+use Rattle.refusal.specs.Outcome.{outcome, Outcome}
+use Rattle.refusal.specs.declared.Why.{Why}
 use Rattle.tables.specs.Load.{load, tablesOf}
 use Rattle.tables.specs.Tables.{Tables}
 

@@ -6,16 +6,16 @@ ghost use mathlib.Core.List.{List};
 ghost use Prim.Native.Nat.{ℕ, _≤_};
 ghost use lib.Dec.{eqb};
 ghost use lib.ListN.{length};
-ghost use Rattle.refusal.specs.Outcome.{outcome};
 ghost use Rattle.height.specs.Height.{zeroHeight};
 ghost use Rattle.height.specs.Words.{Negated};
 ghost use Rattle.nodeset.specs.NodeSet.{member};
 ghost use Rattle.protocol.specs.Answer.{said};
 ghost use Rattle.protocol.specs.Network.{Node, isNode};
+ghost use Rattle.refusal.specs.Outcome.{outcome};
 ghost use Rattle.tables.specs.Cell.{count};
-ghost use Rattle.tables.specs.inner.Fit.{RowFits, TablesFit};
 ghost use Rattle.tables.specs.Row.{neighborsIn, formingIn};
 ghost use Rattle.tables.specs.Tables.{cellWidth, given, atEntry, atExit, tables};
+ghost use Rattle.tables.specs.inner.Fit.{RowFits, TablesFit};
 ghost use Rattle.election.specs.StepOn.{stepAt};
 ghost use Rattle.election.specs.inner.Deciding.{eventOf, Between, Decides, DecidesBy};
 use super::Decided;
@@ -28,8 +28,8 @@ use height::NegatedTime;
 use height::ReferenceLevel;
 use height::Time;
 use protocol::Answer;
-use refusal::Refusal;
 use protocol::Rule;
+use refusal::Refusal;
 
 // Two nodes of the network, not the same.
 fn are_named(n: u32, u: u32, v: u32) -> bool

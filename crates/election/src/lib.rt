@@ -1,9 +1,9 @@
 // The three events on lent tables (document 01, "The three events"). Any n, u, v and any tables may be handed over.
 // No function requires anything: what cannot be done is refused, and nothing lent changes.
 ghost use mathlib.Core.Path.{_≡_};
-ghost use Rattle.refusal.specs.Outcome.{outcome};
 ghost use Rattle.protocol.specs.Answer.{said};
 ghost use Rattle.protocol.specs.Step.{up, down, receive};
+ghost use Rattle.refusal.specs.Outcome.{outcome};
 ghost use Rattle.tables.specs.Tables.{atEntry, atExit};
 ghost use Rattle.election.specs.StepOn.{stepOn};
 ghost use Rattle.election.specs.inner.Deciding.{eventOf};

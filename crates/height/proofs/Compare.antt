@@ -7,13 +7,13 @@ use lib.IntN.{ℤ, pos}
 use lib.ListN.{length}
 use mir.Syntax.{w64}
 use mir.Val.{SFits, toZ, ofZ}
+use Rattle.height.specs.Height.{levelKey, pairKey, heightKey}
+use Rattle.height.specs.Order.{before, same, orderOf, andThen, isLess, isEqual}
 use Rattle.height.specs.declared.Height.{Height}
 use Rattle.height.specs.declared.LeaderPair.{LeaderPair}
 use Rattle.height.specs.declared.ReferenceLevel.{ReferenceLevel}
-use Rattle.height.specs.declared.order.Order.{Order}
 use Rattle.height.specs.declared.order.Order.the-variants.{Less, Equal, Greater}
-use Rattle.height.specs.Order.{before, same, orderOf, andThen, isLess, isEqual}
-use Rattle.height.specs.Height.{levelKey, pairKey, heightKey}
+use Rattle.height.specs.declared.order.Order.{Order}
 use Rattle.height.proofs.OrderLaws.{true-or-false, before-equal, before-append, before-asym, before-total}
 use Rattle.height.proofs.Signed.{read-back}
 

@@ -7,9 +7,9 @@ use lib.Dec.{ltb}
 use borrow.Author.Tests.{lt-ltb, le-ltb, ltb-true, ltb-false}
 use Rattle.refusal.specs.Outcome.{Answered, accepted, refusedWith}
 use Rattle.refusal.specs.Refusal.{why}
-use Rattle.height.specs.declared.Moved.{Moved}
-use Rattle.height.specs.declared.Moved.the-variants.{To, AtEnd}
 use Rattle.height.specs.Clock.{lastTime, saidMoved, clockAfter}
+use Rattle.height.specs.declared.Moved.the-variants.{To, AtEnd}
+use Rattle.height.specs.declared.Moved.{Moved}
 
 pub said-moved-injective : (m n : Moved) → saidMoved m ≡ saidMoved n → m ≡ n
 said-moved-injective (To s) (To t) e = ap (λ (a : Answered ℕ). To (record { 0 = a .value })) e

@@ -6,8 +6,8 @@ use lib.Dec.{ltb}
 use Rattle.refusal.specs.Outcome.{Answered, accepted, refusedWith}
 use Rattle.refusal.specs.Refusal.{why, whyOf}
 use Rattle.refusal.specs.declared.Refusal.the-variants.{ClockEnd}
-use Rattle.height.specs.declared.Moved.{Moved}
 use Rattle.height.specs.declared.Moved.the-variants.{To, AtEnd}
+use Rattle.height.specs.declared.Moved.{Moved}
 
 -- the last time: the clock's end
 abbrev pub lastTime : ℕ

@@ -4,8 +4,8 @@ use mathlib.Core.Bool.{Bool, true, false, not, cond, _&&_, _||_}
 use mathlib.Core.List.{List, [], _∷_}
 use lib.IntN.{ℤ}
 use lib.Signed.{ltZ}
-use Rattle.height.specs.declared.order.Order.{Order}
 use Rattle.height.specs.declared.order.Order.the-variants.{Less, Equal, Greater}
+use Rattle.height.specs.declared.order.Order.{Order}
 
 -- xs is smaller than ys: at the first place where they differ it has the smaller number
 unfoldable pub before : List ℤ → List ℤ → Bool

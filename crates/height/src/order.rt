@@ -3,8 +3,8 @@
 ghost use mathlib.Core.Path.{_≡_};
 ghost use mathlib.Core.List.{[], _∷_};
 ghost use lib.IntN.{pos};
-ghost use Rattle.height.specs.Order.{before, same, orderOf, andThen, isLess, isEqual};
 ghost use Rattle.height.specs.Height.{levelKey, pairKey, heightKey};
+ghost use Rattle.height.specs.Order.{before, same, orderOf, andThen, isLess, isEqual};
 use super::Height;
 use super::LeaderPair;
 use super::ReferenceLevel;

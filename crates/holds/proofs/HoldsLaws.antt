@@ -9,15 +9,15 @@ use lib.IntN.{ℤ, pos, negsuc, negℤ}
 use lib.Pow.{pow-mono, shl-exact}
 use lib.Signed.{leZ}
 use borrow.Author.Tests.{ltb-true, le-leb}
+use Rattle.basics.specs.Functions.{every}
+use Rattle.basics.proofs.Tests.{and-left, and-right, equal?}
 use Rattle.height.specs.Clock.{lastTime}
 use Rattle.height.specs.Words.{Negated}
 use Rattle.height.specs.declared.Height.{Height}
 use Rattle.height.specs.declared.ReferenceLevel.{ReferenceLevel}
 use Rattle.nodeset.specs.NodeSet.{member, within, apart}
 use Rattle.nodeset.proofs.Members.{none-above}
-use Rattle.basics.specs.Functions.{every}
 use Rattle.protocol.specs.Holds.{levelHolds, deltaHolds, leaderPairHolds, heightHolds, notInBoth, setsHold}
-use Rattle.basics.proofs.Tests.{and-left, and-right, equal?}
 
 -- ---- a height
 

@@ -5,8 +5,8 @@ ghost use mathlib.Core.Bool.{_&&_};
 ghost use Prim.Native.Nat.{_≤_};
 ghost use Rattle.height.specs.Words.{Negated};
 ghost use Rattle.nodeset.specs.NodeSet.{member, within};
-ghost use Rattle.protocol.specs.Network.{Node};
 ghost use Rattle.protocol.specs.Holds.{levelHolds, deltaHolds, heightHolds, setsHold};
+ghost use Rattle.protocol.specs.Network.{Node};
 use height::Height;
 use height::ReferenceLevel;
 

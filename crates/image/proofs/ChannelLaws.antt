@@ -9,10 +9,10 @@ use mathlib.Core.List.{List, [], _∷_, _++_, append-assoc}
 use lib.Dec.{eqb}
 use lib.ListN.{length, drop, length-append}
 use lib.Seq.{drop-at}
-use Rattle.bits.specs.Bits.{bits}
-use Rattle.bits.proofs.Numbers.{Below, below-nil, below-append, below-bits}
 use Rattle.basics.proofs.AllOf.{AllOf, none, more}
 use Rattle.basics.proofs.Tests.{Choice, yes!, no!, choice}
+use Rattle.bits.specs.Bits.{bits}
+use Rattle.bits.proofs.Numbers.{Below, below-nil, below-append, below-bits}
 use Rattle.tables.specs.Records.{Records}
 use Rattle.image.specs.Image.{messageBits, channelBits}
 use Rattle.image.specs.Places.{fieldIn, messagesOf, channelNext}

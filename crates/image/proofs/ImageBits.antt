@@ -9,10 +9,10 @@ use borrow.Author.Tests.{eqb-false}
 use lib.Dec.{eqb}
 use lib.ListN.{length, drop, replicate, length-append, length-replicate}
 use lib.Seq.{drop-at}
-use Rattle.bits.specs.Bits.{bits, number, unpacked}
-use Rattle.bits.proofs.Numbers.{Below, below-append, below-zeros, below-bits, length-bits, bits-number, number-bits}
-use Rattle.bits.proofs.Bytes.{unpacked-packed, length-packed}
 use Rattle.basics.proofs.Tests.{Choice, yes!, no!, choice}
+use Rattle.bits.specs.Bits.{bits, number, unpacked}
+use Rattle.bits.proofs.Bytes.{unpacked-packed, length-packed}
+use Rattle.bits.proofs.Numbers.{Below, below-append, below-zeros, below-bits, length-bits, bits-number, number-bits}
 use Rattle.tables.specs.Records.{Records}
 use Rattle.tables.specs.Rows.{rows}
 use Rattle.tables.proofs.RecordsLaws.{Agree}

@@ -11,6 +11,8 @@ use borrow.Author.Tests.{ltb-false}
 use lib.ListN.{take, getD, set, length-map}
 use lib.IntN.{ℤ, pos, negsuc, natAbs}
 use lib.Pow.{pow-mono}
+use Rattle.basics.proofs.AllOf.{AllOf, none, more}
+use Rattle.basics.proofs.Tests.{Choice, yes!, no!, choice, SameOrNot, equal?}
 use Rattle.bits.proofs.Fields.{Fitting, fitting-append}
 use Rattle.height.specs.Height.{zeroHeight}
 use Rattle.height.specs.Words.{deltaWord, heightWords}
@@ -20,9 +22,7 @@ use Rattle.nodeset.specs.NodeSet.{setOf}
 use Rattle.nodeset.proofs.Members.{setOf-lt}
 use Rattle.protocol.specs.Network.{Node, Message, Network}
 use Rattle.protocol.proofs.Ranges.{DeltaFits, HeightFits}
-use Rattle.basics.proofs.AllOf.{AllOf, none, more}
 use Rattle.protocol.proofs.Soundness.{Fits, MessageFits}
-use Rattle.basics.proofs.Tests.{Choice, yes!, no!, choice, SameOrNot, equal?}
 use Rattle.tables.specs.Cell.{messageWords}
 use Rattle.tables.specs.Records.{recordsOf}
 use Rattle.tables.proofs.RecordsLaws.{message-length}

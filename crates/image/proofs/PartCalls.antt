@@ -5,16 +5,16 @@ use mathlib.Core.List.{List, [], _∷_, _++_, append-nil}
 use mathlib.Core.Path.{_≡_, refl, sym, ap, _∙_}
 use lib.ListN.{length, take, drop, set, length-append, length-drop, length-set, drop-of-length-le}
 use Rattle.bits.specs.Bits.{bits, unpacked, field, written}
-use Rattle.bits.proofs.Numbers.{below-bits, length-bits}
 use Rattle.bits.proofs.Bytes.{length-written, written-written}
+use Rattle.bits.proofs.Numbers.{below-bits, length-bits}
 use Rattle.tables.specs.Cell.{count}
 use Rattle.tables.specs.Records.{slotWords, cellWords}
 use Rattle.tables.specs.Row.{clockIn, neighborsIn, formingIn}
 use Rattle.tables.specs.Tables.{width}
 use Rattle.tables.proofs.RowsLaws.{rest-is}
-use Rattle.image.specs.inner.Parts.{Inside, Depth, recordsBits, rowBits, cellBits, rowFrom, cellFrom}
 use Rattle.image.specs.Places.{fieldIn, messagesOf, channelFrom, heightsFrom}
 use Rattle.image.specs.Widths.{messageWidth, nodeWidth}
+use Rattle.image.specs.inner.Parts.{Inside, Depth, recordsBits, rowBits, cellBits, rowFrom, cellFrom}
 use Rattle.image.proofs.ChannelLaws.{length-messages-of}
 use Rattle.image.proofs.PartLaws.{length-heights-bits, length-messages-bits}
 use Rattle.image.proofs.PartTurns.{behind-sets}

@@ -8,9 +8,9 @@ use mathlib.Core.Path.{_≡_, refl, sym, ap, ap₂, _∙_}
 use lib.Dec.{eqb}
 use lib.ListN.{length, take, drop, replicate, length-append, length-drop, replicate-append-replicate}
 use lib.Seq.{drop-drop}
+use Rattle.basics.proofs.AllOf.{none, more}
 use Rattle.bits.specs.Bits.{bits, total}
 use Rattle.bits.proofs.Numbers.{Below, below-append, below-bits, length-bits}
-use Rattle.basics.proofs.AllOf.{none, more}
 use Rattle.tables.specs.Cell.{count}
 use Rattle.tables.specs.Records.{Records, rowWords, slotWords, cellWords}
 use Rattle.tables.specs.Row.{clockIn, neighborsIn, formingIn}
@@ -20,9 +20,9 @@ use Rattle.tables.proofs.RecordsLaws.{Eights, Shaped, length-cell}
 use Rattle.tables.proofs.RowsLaws.{row-fits, part-length}
 use Rattle.tables.proofs.RowsMore.{rows-more, rows-same, length-rows, row-first, row-next, rows-at}
 use Rattle.image.specs.Image.{nodeBits, messageBits}
-use Rattle.image.specs.inner.Parts.{recordsBits, rowBits, cellBits, rowFrom, cellFrom}
 use Rattle.image.specs.Places.{fieldIn, nodePlace, heightFrom, messagesOf, channelFrom, channelPlace, recordsIn, recordsFrom, heightsFrom}
 use Rattle.image.specs.Widths.{recordBits, recordOf, widthsOf, heightWidth, messageWidth, nodeWidth}
+use Rattle.image.specs.inner.Parts.{recordsBits, rowBits, cellBits, rowFrom, cellFrom}
 use Rattle.image.proofs.RecordLaws.{total-height, total-message, length-record, below-record, length-record-bits}
 use Rattle.image.proofs.RowsMore.{below-rows}
 

@@ -9,17 +9,17 @@ use mathlib.Core.Path.{_≡_, refl, sym, ap, ap₂, _∙_}
 use lib.ListN.{length, take, drop, replicate, length-append, length-drop, length-replicate, replicate-append-replicate, drop-of-length-le}
 use lib.Seq.{take-at, drop-at, drop-drop}
 use Rattle.bits.specs.Bits.{unpacked, written, RoomFor}
-use Rattle.bits.proofs.Numbers.{Below}
 use Rattle.bits.proofs.Bytes.{length-written, written-none, written-written}
+use Rattle.bits.proofs.Numbers.{Below}
 use Rattle.tables.specs.Records.{slotWords}
 use Rattle.tables.specs.Rows.{rows, rowAt}
 use Rattle.tables.proofs.RowsLaws.{row-fits, product-le, part-row}
-use Rattle.image.specs.inner.Parts.{Inside, Depth, RecordRun, recordsBits}
 use Rattle.image.specs.Places.{messagesOf, recordsFrom, heightsFrom}
 use Rattle.image.specs.Widths.{widthsOf, recordBits, recordOf, heightWidth, messageWidth, nodeWidth}
-use Rattle.image.proofs.RecordLaws.{total-height, total-message, room, length-record-bits}
-use Rattle.image.proofs.PartLaws.{length-row-at, below-records-bits, length-records-bits, records-bits-more}
+use Rattle.image.specs.inner.Parts.{Inside, Depth, RecordRun, recordsBits}
 use Rattle.image.proofs.PartLaws.{length-records-from, records-from-more, slots-run}
+use Rattle.image.proofs.PartLaws.{length-row-at, below-records-bits, length-records-bits, records-bits-more}
+use Rattle.image.proofs.RecordLaws.{total-height, total-message, room, length-record-bits}
 
 pub heights : {d n : ℕ} {xs ws : List ℕ} {at : ℕ} → Depth d × (n ≤ 16) × (length ws ≡ n * 7) × Inside xs at (n * heightWidth d)
     → RecordRun d 7 (heightWidth d) n xs ws at

@@ -9,17 +9,17 @@ use mathlib.Core.List.{List, _++_, append-assoc}
 use borrow.Author.Tests.{ne-eqb}
 use lib.Dec.{eqb}
 use lib.ListN.{length, drop, length-append}
-use Rattle.bits.specs.Bits.{bits}
-use Rattle.bits.proofs.Numbers.{length-bits}
 use Rattle.basics.proofs.AllOf.{AllOf}
 use Rattle.basics.proofs.Tests.{Choice, yes!, no!, choice}
+use Rattle.bits.specs.Bits.{bits}
+use Rattle.bits.proofs.Numbers.{length-bits}
 use Rattle.tables.specs.Records.{Records}
 use Rattle.tables.specs.Rows.{rows}
 use Rattle.tables.proofs.RecordsLaws.{Agree}
 use Rattle.tables.proofs.RowsMore.{later, length-rows}
 use Rattle.image.specs.Image.{nodeBits, messageBits, channelBits, channelsBits, networkBits}
-use Rattle.image.specs.Places.{fieldIn, nodePlace, heightFrom, messagesOf, channelFrom, walked, channelNext, channelsNext}
 use Rattle.image.specs.Places.{channelsPlace, channelsFromPlace, channelPlace, imageEnd, recordsIn}
+use Rattle.image.specs.Places.{fieldIn, nodePlace, heightFrom, messagesOf, channelFrom, walked, channelNext, channelsNext}
 use Rattle.image.specs.Widths.{recordBits, recordOf, heightWidth, messageWidth, nodeWidth}
 use Rattle.image.proofs.ChannelLaws.{MessageFields, length-messages, messages-read, channel-same, channel-other, next-same, next-other}
 use Rattle.image.proofs.FieldInLaws.{field-head, field-behind}

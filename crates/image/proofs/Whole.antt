@@ -7,8 +7,8 @@ use mathlib.Core.List.{List, _++_, append-assoc}
 use lib.ListN.{length, take, drop, replicate, length-append, length-drop}
 use lib.Pow.{pow-pos}
 use Rattle.bits.specs.Bits.{bits, number, packed, unpacked}
-use Rattle.bits.proofs.Numbers.{Below, below-nil, below-cons, below-append, below-zeros, below-drop}
 use Rattle.bits.proofs.Bytes.{below-unpacked, length-unpacked, packed-unpacked}
+use Rattle.bits.proofs.Numbers.{Below, below-nil, below-cons, below-append, below-zeros, below-drop}
 use Rattle.tables.specs.Records.{Records}
 use Rattle.tables.proofs.RecordsLaws.{Agree}
 use Rattle.image.specs.Image.{headerBits, networkBits, padded, bytesOf, imageOf}

@@ -3,13 +3,13 @@ ghost use mathlib.Core.Path.{_≡_};
 ghost use Prim.Native.Nat.{_+_, _*_, _≤_};
 ghost use lib.ListN.{length, drop};
 ghost use Rattle.bits.specs.Bits.{unpacked, written};
-ghost use Rattle.image.specs.inner.Parts.{Inside, Depth, cellBits, cellFrom};
-ghost use Rattle.image.specs.Places.{fieldIn, messagesOf};
-ghost use Rattle.image.specs.Widths.{messageWidth};
 ghost use Rattle.protocol.specs.Network.{capacity};
 ghost use Rattle.tables.specs.Cell.{count};
 ghost use Rattle.tables.specs.Records.{slotWords};
 ghost use Rattle.tables.specs.Tables.{messageSize, cellWidth};
+ghost use Rattle.image.specs.Places.{fieldIn, messagesOf};
+ghost use Rattle.image.specs.Widths.{messageWidth};
+ghost use Rattle.image.specs.inner.Parts.{Inside, Depth, cellBits, cellFrom};
 use super::MESSAGE_REST;
 use tables::MESSAGE_SIZE;
 

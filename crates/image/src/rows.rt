@@ -1,12 +1,12 @@
 // A node's record: the clock, both sets and n heights, between a row of words and a bit place.
 ghost use mathlib.Core.Path.{_≡_};
-ghost use Prim.Native.Nat.{_+_, _*_, _≤_};
+ghost use Prim.Native.Nat.{_*_, _≤_};
 ghost use lib.ListN.{length};
 ghost use Rattle.bits.specs.Bits.{unpacked, written};
-ghost use Rattle.image.specs.inner.Parts.{Inside, Depth, rowBits, rowFrom};
+ghost use Rattle.tables.specs.Tables.{heightSize, width};
 ghost use Rattle.image.specs.Places.{heightsFrom};
 ghost use Rattle.image.specs.Widths.{nodeWidth};
-ghost use Rattle.tables.specs.Tables.{heightSize, width};
+ghost use Rattle.image.specs.inner.Parts.{Inside, Depth, rowBits, rowFrom};
 use super::HEIGHT_REST;
 use super::NODE_HEAD;
 use tables::HEIGHT_SIZE;

@@ -9,12 +9,12 @@ use lib.Dec.{leb, ltb}
 use lib.ListN.{length, take, drop}
 use lib.Seq.{drop-drop}
 use denote.Ref.{now}
+use Rattle.basics.proofs.Tests.{Choice, yes!, no!, choice, and-left, and-right, neither-left, neither-right}
 use Rattle.bits.specs.Bits.{number, unpacked, field}
 use Rattle.bits.proofs.Bytes.{unpacked-drop}
-use Rattle.basics.proofs.Tests.{Choice, yes!, no!, choice, and-left, and-right, neither-left, neither-right}
-use Rattle.tables.proofs.RowsLaws.{rest-is}
 use Rattle.refusal.specs.Outcome.{accepted, outcome, refusedWith}
 use Rattle.refusal.specs.Refusal.{why}
+use Rattle.tables.proofs.RowsLaws.{rest-is}
 use Rattle.image_reader.specs.Fields.{standsIn, saidTaken, takeOn, movedTo, takeFrom}
 use Rattle.image_reader.specs.declared.Reader.{Reader}
 use Rattle.image_reader.specs.declared.Taken.{Taken}

@@ -7,19 +7,19 @@ use mathlib.Core.Path.{_≡_, refl, ap, _∙_}
 use borrow.Author.Tests.{eqb-true, ltb-false, not-false}
 use lib.Dec.{eqb, ltb}
 use lib.ListN.{length, take, drop}
+use Rattle.basics.proofs.Tests.{neither-left, neither-right}
 use Rattle.bits.specs.Bits.{number, unpacked}
-use Rattle.image.specs.inner.Parts.{Inside}
 use Rattle.image.specs.Places.{fieldIn, recordsFrom, heightsFrom}
 use Rattle.image.specs.Widths.{recordOf, heightWidth, nodeWidth}
+use Rattle.image.specs.inner.Parts.{Inside}
 use Rattle.image.proofs.PartCalls.{rest-length}
-use Rattle.basics.proofs.Tests.{neither-left, neither-right}
-use Rattle.tables.proofs.RowsLaws.{rest-is}
-use Rattle.tables.proofs.RowsMore.{rows-same}
 use Rattle.refusal.specs.Outcome.{Answered, Outcome, accepted, outcome}
 use Rattle.refusal.specs.Refusal.{why}
-use Rattle.image_reader.specs.declared.NodeRecord.{NodeRecord}
+use Rattle.tables.proofs.RowsLaws.{rest-is}
+use Rattle.tables.proofs.RowsMore.{rows-same}
 use Rattle.image_reader.specs.Fields.{standsIn}
 use Rattle.image_reader.specs.Record.{unread, recordIn, nodeInside, nodeOn}
+use Rattle.image_reader.specs.declared.NodeRecord.{NodeRecord}
 use Rattle.image_reader.proofs.FieldLaws.{from-byte, fits}
 
 -- the first 64 bits of a record that stands inside the bytes

@@ -10,8 +10,8 @@ use Rattle.bits.specs.Bits.{field}
 use Rattle.refusal.specs.Outcome.{Answered, Outcome, accepted, outcome, refusedWith}
 use Rattle.refusal.specs.Refusal.{why, whyOf}
 use Rattle.image_reader.specs.declared.Reader.{Reader}
-use Rattle.image_reader.specs.declared.Taken.{Taken}
 use Rattle.image_reader.specs.declared.Taken.the-variants.{Field, Refused}
+use Rattle.image_reader.specs.declared.Taken.{Taken}
 
 -- w bits from a place on stand inside the bytes, and the place behind them is a number of 64 bits
 unfoldable pub standsIn : List ℕ → ℕ → ℕ → Bool

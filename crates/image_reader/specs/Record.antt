@@ -8,13 +8,13 @@ use lib.ListN.{length}
 use Rattle.bits.specs.Bits.{unpacked}
 use Rattle.image.specs.Places.{fieldIn, heightsFrom}
 use Rattle.image.specs.Widths.{depthWidth, nodeWidth}
-use Rattle.tables.specs.Tables.{heightSize}
-use Rattle.image_reader.specs.Fields.{standsIn}
 use Rattle.refusal.specs.Outcome.{Answered, Outcome, accepted, outcome, refusedWith}
 use Rattle.refusal.specs.Refusal.{why, whyOf}
 use Rattle.refusal.specs.declared.Why.{Why}
-use Rattle.image_reader.specs.declared.NodeRead.{NodeRead}
+use Rattle.tables.specs.Tables.{heightSize}
+use Rattle.image_reader.specs.Fields.{standsIn}
 use Rattle.image_reader.specs.declared.NodeRead.the-variants.{Found, Refused}
+use Rattle.image_reader.specs.declared.NodeRead.{NodeRead}
 use Rattle.image_reader.specs.declared.NodeRecord.{NodeRecord}
 
 abbrev pub noNode : NodeRecord

@@ -1,14 +1,14 @@
 // A node's record at a bit place of an image's bytes: the work of `node`.
 ghost use mathlib.Core.Path.{_≡_};
-ghost use Prim.Native.Nat.{_+_, _*_, _≤_, _<_};
+ghost use Prim.Native.Nat.{_+_, _*_, _≤_};
 ghost use lib.ListN.{length};
 ghost use Rattle.bits.specs.Bits.{unpacked};
-ghost use Rattle.image.specs.inner.Parts.{Inside};
 ghost use Rattle.image.specs.Widths.{depthWidth, nodeWidth};
+ghost use Rattle.image.specs.inner.Parts.{Inside};
 ghost use Rattle.refusal.specs.Outcome.{outcome};
+ghost use Rattle.tables.specs.Tables.{heightSize};
 ghost use Rattle.image_reader.specs.Record.{saidNode, recordIn, nodeInside, nodeOn};
 ghost use Rattle.image_reader.specs.declared.NodeRead.the-variants.{Found};
-ghost use Rattle.tables.specs.Tables.{heightSize};
 use super::NodeRead;
 use super::NodeRecord;
 use super::fields;

@@ -9,14 +9,14 @@ use borrow.Author.Tests.{lt-ltb, le-ltb, eq-eqb, ne-eqb}
 use lib.Dec.{ltb, eqb}
 use lib.ListN.{length, drop, length-drop}
 use lib.Seq.{take-all}
-use Rattle.bits.proofs.Bytes.{length-unpacked}
 use Rattle.bits.specs.Bits.{number, field, unpacked}
+use Rattle.bits.proofs.Bytes.{length-unpacked}
 use Rattle.image.specs.Places.{fieldIn, channelsPlace}
 use Rattle.image.specs.Widths.{messageWidth, heightWidth, nodeWidth}
-use Rattle.image_reading.specs.declared.Walk.{Walk}
-use Rattle.image_reading.specs.declared.Walk.the-variants.{At, Refused}
 use Rattle.refusal.specs.declared.Refusal.the-variants.{Fault, BadEnd}
 use Rattle.image_reading.specs.Walk.{channelStep, channelsWalk, walk, endsAt}
+use Rattle.image_reading.specs.declared.Walk.the-variants.{At, Refused}
+use Rattle.image_reading.specs.declared.Walk.{Walk}
 
 -- ---- a place of bits against the number of bytes
 module _ (xs : List ℕ) (q : ℕ) where

@@ -9,12 +9,12 @@ use lib.ListN.{length}
 use Rattle.image.specs.Places.{imageEnd, tablesIn}
 use Rattle.lent.specs.Check.{firstFault}
 use Rattle.refusal.specs.Refusal.{why, whyOf}
-use Rattle.refusal.specs.declared.Why.{Why}
-use Rattle.image_reading.specs.declared.Walk.{Walk}
-use Rattle.image_reading.specs.declared.Walk.the-variants.{At, Refused}
 use Rattle.refusal.specs.declared.Refusal.{Refusal}
+use Rattle.refusal.specs.declared.Why.{Why}
 use Rattle.image_reading.specs.Examine.{Walkable, afterWalk, examined}
 use Rattle.image_reading.specs.Walk.{walk, endsAt}
+use Rattle.image_reading.specs.declared.Walk.the-variants.{At, Refused}
+use Rattle.image_reading.specs.declared.Walk.{Walk}
 use Rattle.image_reading.proofs.WalkLaws.{walk-accepted}
 
 module _ (h d n : ℕ) (l : List ℕ) {w : Walk} (walks : w ≡ walk h d n l) where

@@ -7,9 +7,9 @@ use mathlib.Core.List.{List, _++_}
 use mathlib.Core.Path.{_≡_, refl, sym, ap, ap₂, _∙_}
 use lib.ListN.{length, take, drop}
 use lib.Seq.{take-add, take-all, take-at, length-take-le}
-use Rattle.tables.proofs.RowsMore.{rows-more}
 use Rattle.tables.specs.Rows.{rows, rowAt, putRow}
 use Rattle.tables.proofs.RowsLaws.{row-fits, row-length, row-put, put-row-length, part-row, changed-row}
+use Rattle.tables.proofs.RowsMore.{rows-more}
 
 -- k of n pieces stand in ws
 pub record Filling (w n : ℕ) (f : ℕ → List ℕ) (k : ℕ) (ws : List ℕ) : Type 0 where

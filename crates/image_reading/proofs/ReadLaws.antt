@@ -10,21 +10,21 @@ use lib.Dec.{eqb}
 use lib.ListN.{length, replicate}
 use Rattle.bits.specs.Bits.{unpacked}
 use Rattle.bits.proofs.Bytes.{length-unpacked}
-use Rattle.image.specs.inner.Parts.{Inside, rowFrom, cellFrom}
 use Rattle.image.specs.Places.{fieldIn, nodePlace, walked, channelNext, channelsNext, channelsPlace, channelsFromPlace, channelPlace, imageEnd, recordsIn}
 use Rattle.image.specs.Widths.{messageWidth, nodeWidth}
+use Rattle.image.specs.inner.Parts.{Inside, rowFrom, cellFrom}
+use Rattle.image.proofs.ChannelLaws.{next-same, next-other}
 use Rattle.image.proofs.PartLaws.{row-read, channel-eights}
-use Rattle.tables.proofs.RecordsLaws.{length-cell}
-use Rattle.tables.proofs.RowsMore.{rows-same}
+use Rattle.image.proofs.PlaceLaws.{channel-on, channels-on, start-in, walked-le}
 use Rattle.protocol.specs.Network.{Two}
 use Rattle.tables.specs.Records.{rowWords, slotWords, cellWords}
 use Rattle.tables.specs.Rows.{rows}
 use Rattle.tables.specs.Tables.{cellWidth}
+use Rattle.tables.proofs.RecordsLaws.{length-cell}
 use Rattle.tables.proofs.RowsLaws.{row-fits}
-use Rattle.image_reading.specs.inner.Cells.{cellIn, cellBehind, ChannelIn, ChannelsIn}
+use Rattle.tables.proofs.RowsMore.{rows-same}
 use Rattle.image_reading.specs.Examine.{Walkable}
-use Rattle.image.proofs.ChannelLaws.{next-same, next-other}
-use Rattle.image.proofs.PlaceLaws.{channel-on, channels-on, start-in, walked-le}
+use Rattle.image_reading.specs.inner.Cells.{cellIn, cellBehind, ChannelIn, ChannelsIn}
 
 -- ---- the nodes' records
 pub node-inside : {h d n : ℕ} {xs : List ℕ} → Walkable h d n (unpacked xs) → (i : ℕ) → i < n → Inside xs (h + i * nodeWidth d n) (nodeWidth d n)

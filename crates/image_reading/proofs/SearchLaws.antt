@@ -3,25 +3,25 @@ use Prim.Native.Nat.{ℕ, zero, suc, _+_, _-_, _*_, _≤_, _<_}
 use native.Mathlib.Numerals.{add-one}
 use native.Mathlib.Omega.{arith}
 use mathlib.Core.Bool.{Bool, true, false, cond}
-use mathlib.Core.List.{List, [], _∷_}
+use mathlib.Core.List.{List}
 use mathlib.Core.Path.{_≡_, refl, sym, ap, ap₂, _∙_}
-use Rattle.image.specs.inner.Parts.{rowFrom}
 use Rattle.image.specs.Places.{recordsIn, tablesIn}
 use Rattle.image.specs.Widths.{nodeWidth}
+use Rattle.image.specs.inner.Parts.{rowFrom}
 use Rattle.image.proofs.PartLaws.{records-shaped}
 use Rattle.lent.specs.Check.{pairAt, faultInRow, faultFrom, orElse}
-use Rattle.refusal.specs.Refusal.{why, whyOf}
-use Rattle.refusal.specs.declared.Why.{Why}
 use Rattle.pairs.specs.Pair.{pairSound}
-use Rattle.tables.proofs.RecordsLaws.{row-from, cell-from}
-use Rattle.image_reading.specs.declared.Walk.{Walk}
-use Rattle.image_reading.specs.declared.Walk.the-variants.{At, Refused}
-use Rattle.refusal.specs.declared.Refusal.{Refusal}
+use Rattle.refusal.specs.Refusal.{why, whyOf}
 use Rattle.refusal.specs.declared.Refusal.the-variants.{Fault}
+use Rattle.refusal.specs.declared.Refusal.{Refusal}
+use Rattle.refusal.specs.declared.Why.{Why}
 use Rattle.refusal.proofs.RefusalLaws.{never-0}
+use Rattle.tables.proofs.RecordsLaws.{row-from, cell-from}
+use Rattle.image_reading.specs.Walk.{saidWalk}
+use Rattle.image_reading.specs.declared.Walk.the-variants.{At, Refused}
+use Rattle.image_reading.specs.declared.Walk.{Walk}
 use Rattle.image_reading.specs.inner.Cells.{cellIn, cellBehind}
 use Rattle.image_reading.specs.inner.Search.{rowHolds, Searched}
-use Rattle.image_reading.specs.Walk.{saidWalk}
 use Rattle.image_reading.proofs.ReadLaws.{ChannelAt, ChannelsAt, row-got, cell-behind, cell-got}
 
 -- ---- one row

@@ -10,6 +10,7 @@ use mathlib.Core.Path.{sym, subst}
 use lib.Dec.{eqb}
 use lib.ListN.{length, take, drop, replicate}
 use lib.Pow.{pow-mono}
+use Rattle.basics.proofs.AllOf.{AllOf, none, more}
 use Rattle.bits.specs.Bits.{gathered}
 use Rattle.bits.proofs.Numbers.{Below, below-nil, below-cons, below-append, below-drop, below-zeros, below-set}
 use Rattle.image.specs.Places.{fieldIn, heightFrom, messagesOf, channelFrom, channelPlace, nodePlace, recordsIn, tablesIn}
@@ -19,7 +20,6 @@ use Rattle.image.proofs.FieldInLaws.{field-in-lt}
 use Rattle.image.proofs.RecordLaws.{extended-low, extended-high, widths-narrow, gathered-lt, depth-lt}
 use Rattle.image.proofs.RowsMore.{below-rows}
 use Rattle.lent.proofs.SoundTables.{Words}
-use Rattle.basics.proofs.AllOf.{AllOf, none, more}
 use Rattle.tables.specs.Records.{rowWords, slotWords, cellWords, tablesFrom}
 use Rattle.tables.specs.Rows.{rows}
 

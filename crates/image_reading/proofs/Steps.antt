@@ -14,12 +14,12 @@ use lib.ListN.{length}
 use types.Run.{OneOf, miss}
 use Rattle.image.specs.Places.{fieldIn, walked, channelNext}
 use Rattle.image.specs.Widths.{messageWidth}
-use Rattle.image_reading.specs.declared.Walk.{Walk}
-use Rattle.image_reading.specs.declared.Walk.the-variants.{At, Refused}
+use Rattle.image.proofs.Bounds.{messages-small}
+use Rattle.image.proofs.ChannelLaws.{next-same, next-other}
 use Rattle.refusal.specs.declared.Refusal.the-variants.{Fault, BadEnd}
 use Rattle.image_reading.specs.Walk.{channelStep, onward, steps}
-use Rattle.image.proofs.ChannelLaws.{next-same, next-other}
-use Rattle.image.proofs.Bounds.{messages-small}
+use Rattle.image_reading.specs.declared.Walk.the-variants.{At, Refused}
+use Rattle.image_reading.specs.declared.Walk.{Walk}
 use Rattle.image_reading.proofs.Walk as declared
 
 -- a walk that `let .. else` turns away

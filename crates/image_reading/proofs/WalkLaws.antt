@@ -11,13 +11,13 @@ use lib.Dec.{ltb, eqb}
 use lib.ListN.{length}
 use Rattle.image.specs.Places.{fieldIn, walked, channelNext, channelsNext, channelsPlace, channelsFromPlace, channelPlace, imageEnd}
 use Rattle.image.specs.Widths.{messageWidth, heightWidth, nodeWidth}
+use Rattle.image.proofs.Bounds.{nodes-small}
+use Rattle.image.proofs.PlaceLaws.{channel-on, channels-on, start-in, walked-le}
 use Rattle.protocol.specs.Network.{Node, Two}
-use Rattle.image_reading.specs.declared.Walk.the-variants.{At, Refused}
 use Rattle.refusal.specs.declared.Refusal.the-variants.{Fault, BadEnd}
 use Rattle.image_reading.specs.Examine.{Walkable}
 use Rattle.image_reading.specs.Walk.{channelStep, channelsFromWalk, channelsWalk, walk}
-use Rattle.image.proofs.PlaceLaws.{channel-on, channels-on, start-in, walked-le}
-use Rattle.image.proofs.Bounds.{nodes-small}
+use Rattle.image_reading.specs.declared.Walk.the-variants.{At, Refused}
 use Rattle.image_reading.proofs.Steps.{Near, Went, went, steps-go, Stepped, channel-stepped}
 
 -- ---- accepted walks

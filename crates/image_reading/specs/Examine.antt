@@ -9,9 +9,9 @@ use Rattle.lent.specs.Check.{firstFault}
 use Rattle.protocol.specs.Network.{Two, capacity}
 use Rattle.refusal.specs.Refusal.{why, whyOf}
 use Rattle.refusal.specs.declared.Why.{Why}
-use Rattle.image_reading.specs.declared.Walk.{Walk}
-use Rattle.image_reading.specs.declared.Walk.the-variants.{At, Refused}
 use Rattle.image_reading.specs.Walk.{walk, endsAt}
+use Rattle.image_reading.specs.declared.Walk.the-variants.{At, Refused}
+use Rattle.image_reading.specs.declared.Walk.{Walk}
 
 unfoldable pub afterWalk : ℕ → ℕ → ℕ → List ℕ → Walk → Why
 afterWalk h d n l (At q) = cond (endsAt l q) (firstFault n (tablesIn h d n l)) (why 12 0 0)

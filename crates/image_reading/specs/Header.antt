@@ -10,8 +10,8 @@ use Rattle.image.specs.Widths.{headerLength}
 use Rattle.refusal.specs.Outcome.{Answered, accepted, refusedWith}
 use Rattle.refusal.specs.Refusal.{why, whyOf}
 use Rattle.image_reading.specs.declared.Fields.{Fields}
-use Rattle.image_reading.specs.declared.Header.{Header}
 use Rattle.image_reading.specs.declared.Header.the-variants.{Good, Refused}
+use Rattle.image_reading.specs.declared.Header.{Header}
 
 abbrev pub noFields : Fields
 noFields = record { version = 0; length = 0; n = 0 }

@@ -1,6 +1,6 @@
 // The walk over nodes and channel counts, and the end of the image.
 ghost use mathlib.Core.Path.{_≡_};
-ghost use Prim.Native.Nat.{_+_, _*_, _^_, _≤_, _<_};
+ghost use Prim.Native.Nat.{_*_, _^_, _≤_, _<_};
 ghost use lib.ListN.{length};
 ghost use Rattle.bits.specs.Bits.{unpacked};
 ghost use Rattle.image.specs.inner.Parts.{Depth};

@@ -7,21 +7,21 @@ use mathlib.Core.Path.{_≡_, refl}
 use borrow.Author.Tests.{eq-eqb, eqb-true, eqb-false, leb-true, ltb-true, ltb-false}
 use lib.Dec.{eqb, leb, ltb}
 use lib.ListN.{length, drop}
+use Rattle.basics.proofs.Tests.{Choice, yes!, no!, choice, and-left, and-right, clash}
 use Rattle.bits.specs.Bits.{field, number, unpacked}
 use Rattle.image.specs.Places.{imageEnd, tablesIn}
-use Rattle.lent.specs.Check.{firstFault}
-use Rattle.basics.proofs.Tests.{Choice, yes!, no!, choice, and-left, and-right, clash}
 use Rattle.image_reading.specs.Examine.{Walkable, afterWalk, examined}
 use Rattle.image_reading.specs.Header.{fieldsOf, headerHolds, headerOf}
 use Rattle.image_reading.specs.Walk.{walk, endsAt}
-use Rattle.image_reading.specs.declared.Walk.{Walk}
 use Rattle.image_reading.specs.declared.Walk.the-variants.{At, Refused}
-use Rattle.refusal.proofs.RefusalLaws.{never-0}
+use Rattle.image_reading.specs.declared.Walk.{Walk}
 use Rattle.image_reading.proofs.WalkLaws.{walk-accepted}
-use Rattle.tables.specs.Tables.{Tables, sized}
-use Rattle.image_snapshot.specs.Restore.{restoreExamined, restoreOf, restoreHeaded, restoreOn}
+use Rattle.lent.specs.Check.{firstFault}
 use Rattle.refusal.specs.Outcome.{accepted}
 use Rattle.refusal.specs.Refusal.{why, whyOf}
+use Rattle.refusal.proofs.RefusalLaws.{never-0}
+use Rattle.tables.specs.Tables.{Tables, sized}
+use Rattle.image_snapshot.specs.Restore.{restoreExamined, restoreOf, restoreHeaded, restoreOn}
 
 -- ---- the header
 

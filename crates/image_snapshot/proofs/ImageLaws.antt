@@ -15,24 +15,24 @@ use Rattle.image.proofs.ImageBits.{length-image, length-whole, number-zeros}
 use Rattle.image.proofs.NetworkFits.{network-fit}
 use Rattle.image.proofs.ReadBack.{Fit}
 use Rattle.image.proofs.Whole.{version-read, header-read, count-read, spare-read, image-read, image-end, image-inside, image-no-more}
-use Rattle.lent.specs.Check.{checkOn, firstFault}
-use Rattle.lent.proofs.SoundNetworks.{sound-check}
-use Rattle.protocol.specs.Network.{Two, Network, restrict}
-use Rattle.protocol.specs.Holds.{sound}
-use Rattle.protocol.proofs.Soundness.{Fits, diagonal}
-use Rattle.protocol.proofs.SoundStep.{sound-fits}
 use Rattle.image_reading.specs.Examine.{afterWalk, examined}
 use Rattle.image_reading.specs.Header.{fieldsOf, headerHolds, headerOf}
 use Rattle.image_reading.specs.Walk.{walk, endsAt}
 use Rattle.image_reading.specs.declared.Walk.the-variants.{At}
 use Rattle.image_reading.proofs.WalkLaws.{walk-goes}
+use Rattle.lent.specs.Check.{checkOn, firstFault}
+use Rattle.lent.proofs.SoundNetworks.{sound-check}
+use Rattle.protocol.specs.Holds.{sound}
+use Rattle.protocol.specs.Network.{Two, Network, restrict}
+use Rattle.protocol.proofs.SoundStep.{sound-fits}
+use Rattle.protocol.proofs.Soundness.{Fits, diagonal}
+use Rattle.refusal.specs.Outcome.{accepted}
+use Rattle.refusal.specs.Refusal.{why}
 use Rattle.tables.specs.Cell.{messageWords}
 use Rattle.tables.specs.Load.{tablesOf}
 use Rattle.tables.specs.Records.{recordsOf}
 use Rattle.tables.specs.Tables.{sized}
 use Rattle.tables.proofs.Back.{storable}
-use Rattle.refusal.specs.Outcome.{accepted}
-use Rattle.refusal.specs.Refusal.{why}
 use Rattle.tables.proofs.RecordsLaws.{Agree, agree-tables}
 
 module _ (n : ℕ) (low : 1 ≤ n) (few : n ≤ 16) (p : Network) (holds : sound n p ≡ true) (inside : restrict n p ≡ p) where

@@ -8,32 +8,31 @@ use mathlib.Core.Path.{_≡_, refl, sym, ap, _∙_}
 use borrow.Author.Tests.{eq-eqb, ne-eqb, leb-true, ltb-false, le-ltb, lt-ltb, le-leb}
 use lib.Dec.{leb, ltb}
 use lib.ListN.{length}
+use Rattle.basics.proofs.Tests.{clash, Choice, yes!, no!, choice, and-left, and-right}
 use Rattle.bits.specs.Bits.{unpacked}
 use Rattle.bits.proofs.Bytes.{length-unpacked}
-use Rattle.basics.proofs.Tests.{clash, Choice, yes!, no!, choice, and-left, and-right}
-use Rattle.image.specs.inner.Parts.{Inside}
 use Rattle.image.specs.Places.{nodePlace, channelsPlace}
 use Rattle.image.specs.Widths.{nodeWidth}
+use Rattle.image.specs.inner.Parts.{Inside}
 use Rattle.image.proofs.PlaceLaws.{node-in, start-in}
-use Rattle.protocol.specs.Network.{Node, isNode}
-use Rattle.protocol.proofs.NodeLaws.{node-passes}
 use Rattle.image_reader.specs.Fields.{standsIn}
 use Rattle.image_reader.specs.Record.{recordIn, nodeInside, nodeOn}
 use Rattle.image_reading.specs.Examine.{Walkable, examined}
 use Rattle.image_reading.specs.Header.{saidHeader, headerOf}
 use Rattle.image_reading.specs.declared.Fields.{Fields}
-use Rattle.image_reading.specs.declared.Header.{Header}
 use Rattle.image_reading.specs.declared.Header.the-variants.{Good, Refused}
+use Rattle.image_reading.specs.declared.Header.{Header}
 use Rattle.lent.specs.Check.{saidCheck}
 use Rattle.lent.specs.declared.Checked.{Checked}
+use Rattle.protocol.specs.Network.{Node, isNode}
+use Rattle.protocol.proofs.NodeLaws.{node-passes}
 use Rattle.lent.specs.declared.Checked.the-variants as checks
-use Rattle.refusal.proofs.RefusalLaws.{never-0}
-use Rattle.refusal.specs.declared.Refusal.{Refusal}
-use Rattle.tables.proofs.RowsLaws.{product-le}
-use Rattle.image_snapshot.specs.ReadNode.{Looked, nodePlaced, nodeExamined, nodeSized, nodeHeaded, readNodeOn}
 use Rattle.image_reader.specs.Record.{unread}
-use Rattle.refusal.specs.Outcome.{Answered}
 use Rattle.refusal.specs.Refusal.{why, whyOf}
+use Rattle.refusal.specs.declared.Refusal.{Refusal}
+use Rattle.refusal.proofs.RefusalLaws.{never-0}
+use Rattle.tables.proofs.RowsLaws.{product-le}
+use Rattle.image_snapshot.specs.ReadNode.{nodePlaced, nodeExamined, nodeSized, nodeHeaded, readNodeOn}
 
 -- the records before one of 16 nodes take few bits
 pub before-small : (n k : ℕ) → n ≤ 16 → 1 ≤ k → k ≤ n → (k - 1) * (64 + 96 * n) ≤ 24000

@@ -8,16 +8,21 @@ use lib.ListN.{length, drop}
 use Rattle.bits.specs.Bits.{field, unpacked}
 use Rattle.height.specs.Words.{heightWords}
 use Rattle.image.specs.Image.{image}
-use Rattle.image.specs.inner.Parts.{rowFrom}
 use Rattle.image.specs.Places.{nodePlace, recordsIn, tablesIn}
+use Rattle.image.specs.inner.Parts.{rowFrom}
 use Rattle.image.proofs.PartLaws.{row-read, records-shaped}
+use Rattle.image_reader.specs.Record.{recordIn}
+use Rattle.image_reading.specs.declared.Fields.{Fields}
 use Rattle.lent.specs.Check.{checkOn}
 use Rattle.lent.proofs.CheckLaws.{sound-sized}
 use Rattle.lent.proofs.SoundLoads.{sound-loads, load-inside}
 use Rattle.lent.proofs.SoundTables.{Words, sound-fits}
 use Rattle.nodeset.specs.NodeSet.{setOf}
-use Rattle.protocol.specs.Network.{Node, Network, restrict}
 use Rattle.protocol.specs.Holds.{sound}
+use Rattle.protocol.specs.Network.{Node, Network, restrict}
+use Rattle.refusal.specs.Outcome.{accepted, Answered, outcome}
+use Rattle.refusal.specs.Refusal.{why}
+use Rattle.refusal.specs.declared.Why.{Why}
 use Rattle.tables.specs.Load.{load, tablesOf}
 use Rattle.tables.specs.Records.{recordsOf, rowWords}
 use Rattle.tables.specs.Row.{clockIn, neighborsIn, formingIn}
@@ -27,11 +32,6 @@ use Rattle.tables.proofs.Back.{node-of}
 use Rattle.tables.proofs.RecordsLaws.{node-from}
 use Rattle.tables.proofs.TablesLaws.{tables-back}
 use Rattle.image_snapshot.specs.ReadNode.{Looked, readNodeOn}
-use Rattle.image_reader.specs.Record.{recordIn}
-use Rattle.image_reading.specs.declared.Fields.{Fields}
-use Rattle.refusal.specs.Outcome.{accepted, Answered, outcome}
-use Rattle.refusal.specs.Refusal.{why}
-use Rattle.refusal.specs.declared.Why.{Why}
 use Rattle.image_snapshot.proofs.AcceptedLaws.{header-good}
 use Rattle.image_snapshot.proofs.ImageLaws.{image-header, image-fields, image-tables, image-examined}
 use Rattle.image_snapshot.proofs.NodePlaces.{own-place}

@@ -8,17 +8,17 @@ use mathlib.Core.Path.{_≡_, refl, sym, _∙_}
 use borrow.Author.Tests.{eqb-true, eqb-false, eq-eqb, ne-eqb, leb-true}
 use lib.Dec.{eqb, leb}
 use lib.ListN.{length}
+use Rattle.basics.proofs.Tests.{Choice, yes!, no!, choice, and-left, and-right}
 use Rattle.bits.specs.Bits.{field, unpacked}
 use Rattle.image.specs.Places.{nodePlace}
 use Rattle.image.specs.Widths.{heightWidth, nodeWidth}
-use Rattle.protocol.specs.Network.{Node, isNode}
-use Rattle.basics.proofs.Tests.{Choice, yes!, no!, choice, and-left, and-right}
-use Rattle.protocol.proofs.NodeLaws.{node-passes}
+use Rattle.image_reader.specs.Record.{recordIn, unread}
 use Rattle.image_reading.specs.Examine.{examined}
 use Rattle.image_reading.specs.Header.{headerOf}
-use Rattle.image_snapshot.specs.ReadNode.{nodePlaced, nodeExamined, nodeSized, nodeHeaded, readNodeOn}
-use Rattle.image_reader.specs.Record.{recordIn, unread}
+use Rattle.protocol.specs.Network.{Node, isNode}
+use Rattle.protocol.proofs.NodeLaws.{node-passes}
 use Rattle.refusal.specs.Refusal.{why}
+use Rattle.image_snapshot.specs.ReadNode.{nodePlaced, nodeExamined, nodeSized, nodeHeaded, readNodeOn}
 use Rattle.image_snapshot.proofs.AcceptedLaws.{HeaderGood, header-good}
 
 -- ---- where node k of n starts

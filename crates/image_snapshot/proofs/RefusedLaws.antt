@@ -6,24 +6,24 @@ use mathlib.Core.Path.{_≡_}
 use borrow.Author.Tests.{eqb-true}
 use lib.Dec.{eqb, leb}
 use lib.ListN.{length}
+use Rattle.basics.proofs.Tests.{Choice, yes!, no!, choice}
 use Rattle.bits.specs.Bits.{unpacked}
 use Rattle.image.specs.Image.{image}
 use Rattle.image.specs.Places.{nodePlace}
-use Rattle.lent.specs.Check.{checkOn}
-use Rattle.protocol.specs.Network.{isNode}
-use Rattle.basics.proofs.Tests.{Choice, yes!, no!, choice}
+use Rattle.image_reader.specs.Record.{recordIn}
 use Rattle.image_reading.specs.Examine.{examined}
 use Rattle.image_reading.specs.Header.{headerOf}
+use Rattle.image_reading.specs.declared.Fields.{Fields}
+use Rattle.lent.specs.Check.{checkOn}
+use Rattle.protocol.specs.Network.{isNode}
+use Rattle.refusal.specs.Outcome.{Answered, outcome, putFront}
+use Rattle.refusal.specs.Refusal.{why}
+use Rattle.refusal.specs.declared.Why.{Why}
 use Rattle.tables.specs.Load.{load}
 use Rattle.tables.specs.Tables.{Tables, sized}
 use Rattle.image_snapshot.specs.ReadNode.{nodePlaced, nodeExamined, nodeSized, nodeHeaded, readNodeOn}
 use Rattle.image_snapshot.specs.Restore.{restoreExamined, restoreOf, restoreHeaded, restoreOn}
 use Rattle.image_snapshot.specs.Save.{saveChecked, saveOn}
-use Rattle.image_reader.specs.Record.{recordIn}
-use Rattle.image_reading.specs.declared.Fields.{Fields}
-use Rattle.refusal.specs.Outcome.{Answered, outcome, putFront}
-use Rattle.refusal.specs.Refusal.{why}
-use Rattle.refusal.specs.declared.Why.{Why}
 
 -- ---- a save
 

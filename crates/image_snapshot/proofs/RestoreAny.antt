@@ -4,15 +4,15 @@ use mathlib.Core.Bool.{cond}
 use mathlib.Core.List.{List}
 use mathlib.Core.Path.{_≡_}
 use lib.Dec.{eqb}
-use Rattle.bits.specs.Bits.{unpacked}
 use Rattle.basics.proofs.Tests.{Choice, yes!, no!, choice}
+use Rattle.bits.specs.Bits.{unpacked}
 use Rattle.image_reading.specs.Examine.{examined}
 use Rattle.image_reading.specs.Header.{headerOf}
-use Rattle.tables.specs.Tables.{Tables, Sized, sized}
-use Rattle.image_snapshot.specs.Restore.{restoreExamined, restoreOf, restoreHeaded, restoreOn}
 use Rattle.image_reading.specs.declared.Fields.{Fields}
 use Rattle.refusal.specs.Outcome.{Answered, outcome}
 use Rattle.refusal.specs.Refusal.{why}
+use Rattle.tables.specs.Tables.{Tables, Sized, sized}
+use Rattle.image_snapshot.specs.Restore.{restoreExamined, restoreOf, restoreHeaded, restoreOn}
 
 -- tables of one size are of the same size for every number of nodes
 pub same-size : (n m : ℕ) (t u : Tables) → Sized n t → Sized n u → sized m t ≡ sized m u

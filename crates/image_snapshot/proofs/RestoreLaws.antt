@@ -9,18 +9,18 @@ use Rattle.image.specs.Places.{tablesIn}
 use Rattle.image_reading.specs.Examine.{Walkable, examined}
 use Rattle.image_reading.specs.Header.{saidHeader, headerOf}
 use Rattle.image_reading.specs.declared.Fields.{Fields}
-use Rattle.image_reading.specs.declared.Header.{Header}
 use Rattle.image_reading.specs.declared.Header.the-variants.{Good, Refused}
+use Rattle.image_reading.specs.declared.Header.{Header}
 use Rattle.lent.specs.Check.{saidCheck}
 use Rattle.lent.specs.declared.Checked.{Checked}
 use Rattle.lent.specs.declared.Checked.the-variants as checks
-use Rattle.refusal.proofs.RefusalLaws.{never-0}
-use Rattle.refusal.specs.declared.Refusal.{Refusal}
-use Rattle.tables.specs.Tables.{Tables, sized}
-use Rattle.image_snapshot.specs.Restore.{restoreExamined, restoreOf, restoreHeaded, restoreOn}
 use Rattle.refusal.specs.Outcome.{Answered, outcome}
 use Rattle.refusal.specs.Refusal.{why, whyOf}
+use Rattle.refusal.specs.declared.Refusal.{Refusal}
 use Rattle.refusal.specs.declared.Why.{Why}
+use Rattle.refusal.proofs.RefusalLaws.{never-0}
+use Rattle.tables.specs.Tables.{Tables, sized}
+use Rattle.image_snapshot.specs.Restore.{restoreExamined, restoreOf, restoreHeaded, restoreOn}
 use Rattle.image_snapshot.proofs.AcceptedLaws.{header-good, examined-good}
 
 -- ---- the header

@@ -10,12 +10,12 @@ use Rattle.lent.proofs.SoundLoads.{sound-loads, load-inside}
 use Rattle.lent.proofs.SoundTables.{Words, sound-fits}
 use Rattle.protocol.specs.Holds.{sound}
 use Rattle.protocol.specs.Network.{Network, restrict}
+use Rattle.refusal.specs.Outcome.{outcome}
+use Rattle.refusal.specs.Refusal.{why}
 use Rattle.tables.specs.Load.{load, tablesOf}
 use Rattle.tables.specs.Tables.{Tables, sized}
 use Rattle.tables.proofs.TablesLaws.{tables-back}
 use Rattle.image_snapshot.specs.Restore.{restoreExamined, restoreOf, restoreHeaded, restoreOn}
-use Rattle.refusal.specs.Outcome.{outcome}
-use Rattle.refusal.specs.Refusal.{why}
 use Rattle.image_snapshot.proofs.ImageLaws.{image-header, image-tables, image-examined}
 
 pub restore-image : (n : ℕ) → 1 ≤ n → n ≤ 16 → (p : Network) → sound n p ≡ true → restrict n p ≡ p → (t : Tables) → sized n t ≡ true

@@ -7,10 +7,10 @@ use mathlib.Core.List.{List}
 use Rattle.bits.specs.Bits.{unpacked}
 use Rattle.image.specs.Image.{image}
 use Rattle.image.specs.Places.{tablesIn}
+use Rattle.image_reading.specs.Header.{fieldsOf}
 use Rattle.protocol.specs.Holds.{sound}
 use Rattle.protocol.specs.Network.{Network, restrict}
 use Rattle.protocol.proofs.SoundStep.{sound-fits}
-use Rattle.image_reading.specs.Header.{fieldsOf}
 use Rattle.tables.specs.Load.{load, tablesOf}
 use Rattle.tables.proofs.Back.{storable, load-back}
 use Rattle.image_snapshot.proofs.ImageLaws.{image-fields, image-tables}

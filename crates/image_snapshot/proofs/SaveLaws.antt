@@ -6,18 +6,18 @@ use borrow.Author.Tests.{le-leb, lt-leb}
 use lib.ListN.{length, drop, getD}
 use Rattle.image.specs.Image.{image}
 use Rattle.lent.specs.Check.{saidCheck, checkOn}
-use Rattle.lent.specs.declared.Checked.{Checked}
 use Rattle.lent.specs.declared.Checked.the-variants.{Sound, Refused}
-use Rattle.refusal.proofs.RefusalLaws.{never-0}
-use Rattle.refusal.specs.declared.Refusal.{Refusal}
+use Rattle.lent.specs.declared.Checked.{Checked}
 use Rattle.lent.proofs.SoundTables.{sound-fits}
-use Rattle.tables.specs.inner.Fit.{TablesFit}
-use Rattle.tables.specs.Load.{load}
-use Rattle.tables.specs.Tables.{Tables}
-use Rattle.image_snapshot.specs.Save.{saveChecked, saveOn}
 use Rattle.refusal.specs.Outcome.{accepted, outcome, putFront, refusedWith}
 use Rattle.refusal.specs.Refusal.{why, whyOf}
+use Rattle.refusal.specs.declared.Refusal.{Refusal}
 use Rattle.refusal.specs.declared.Why.{Why}
+use Rattle.refusal.proofs.RefusalLaws.{never-0}
+use Rattle.tables.specs.Load.{load}
+use Rattle.tables.specs.Tables.{Tables}
+use Rattle.tables.specs.inner.Fit.{TablesFit}
+use Rattle.image_snapshot.specs.Save.{saveChecked, saveOn}
 
 module _ (n : ℕ) (t : Tables) {r : Checked} (answers : saidCheck r ≡ checkOn n t) where
   pub passes : r ≡ Sound → checkOn n t .number ≡ 0

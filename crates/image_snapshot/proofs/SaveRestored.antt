@@ -6,32 +6,32 @@ use mathlib.Core.List.{List}
 use mathlib.Core.Path.{_≡_, refl, sym, _∙_}
 use lib.ListN.{length, length-map}
 use Rattle.bits.specs.Bits.{field, unpacked}
-use Rattle.bits.proofs.Numbers.{Below}
 use Rattle.bits.proofs.Bytes.{below-unpacked, length-unpacked}
+use Rattle.bits.proofs.Numbers.{Below}
 use Rattle.image.specs.Image.{image}
 use Rattle.image.specs.Places.{fieldIn, recordsIn, tablesIn}
 use Rattle.image.proofs.ImageBits.{same-image}
 use Rattle.image.proofs.PartLaws.{records-shaped}
 use Rattle.image.proofs.Whole.{Accepted, image-of-read}
+use Rattle.image_reading.proofs.ShapeLaws.{records-words}
 use Rattle.lent.specs.Check.{checkOn}
 use Rattle.lent.proofs.CheckLaws.{is-sized, check-places}
 use Rattle.lent.proofs.SoundLoads.{sound-loads, load-inside}
 use Rattle.lent.proofs.SoundTables.{Words, sound-fits as tables-fit}
 use Rattle.protocol.specs.Network.{Network}
-use Rattle.protocol.proofs.Soundness.{Fits}
 use Rattle.protocol.proofs.SoundStep.{sound-fits}
-use Rattle.tables.specs.inner.Fit.{TablesFit}
+use Rattle.protocol.proofs.Soundness.{Fits}
+use Rattle.refusal.specs.Outcome.{putFront}
 use Rattle.tables.specs.Cell.{messageWords}
 use Rattle.tables.specs.Load.{load, tablesOf}
 use Rattle.tables.specs.Records.{recordsOf}
 use Rattle.tables.specs.Tables.{Tables, Sized}
+use Rattle.tables.specs.inner.Fit.{TablesFit}
 use Rattle.tables.proofs.RecordsLaws.{Agree, network-shaped, made-sized, tables-tell}
 use Rattle.tables.proofs.TablesLaws.{tables-back}
 use Rattle.image_snapshot.specs.Restore.{restoreOn}
 use Rattle.image_snapshot.specs.Save.{saveChecked, saveOn}
 use Rattle.image_snapshot.proofs.AcceptedLaws.{HeaderGood, ExaminedGood, restore-good}
-use Rattle.image_reading.proofs.ShapeLaws.{records-words}
-use Rattle.refusal.specs.Outcome.{putFront}
 
 -- ---- an image that was accepted, of n nodes by its header
 

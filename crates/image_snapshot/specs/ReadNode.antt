@@ -14,10 +14,10 @@ use Rattle.image_reading.specs.Examine.{examined}
 use Rattle.image_reading.specs.Header.{headerOf}
 use Rattle.image_reading.specs.declared.Fields.{Fields}
 use Rattle.protocol.specs.Network.{isNode}
-use Rattle.tables.specs.Tables.{heightSize}
 use Rattle.refusal.specs.Outcome.{Answered, Outcome}
 use Rattle.refusal.specs.Refusal.{why}
 use Rattle.refusal.specs.declared.Why.{Why}
+use Rattle.tables.specs.Tables.{heightSize}
 
 -- what is said, and the lent row afterwards
 abbrev pub Looked : Type 0

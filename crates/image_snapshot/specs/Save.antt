@@ -11,8 +11,8 @@ use Rattle.refusal.specs.Refusal.{whyOf}
 use Rattle.refusal.specs.declared.Why.{Why}
 use Rattle.tables.specs.Load.{load}
 use Rattle.tables.specs.Tables.{Tables}
-use Rattle.image_snapshot.specs.declared.Saved.{Saved}
 use Rattle.image_snapshot.specs.declared.Saved.the-variants.{Written, Refused}
+use Rattle.image_snapshot.specs.declared.Saved.{Saved}
 
 -- 0 and the image's length in bytes; or 1, 2 with the pair, 14
 abbrev pub saidSave : Saved → Answered ℕ

@@ -4,8 +4,8 @@ ghost use Prim.Native.Nat.{_≤_};
 ghost use Rattle.bits.specs.Bits.{unpacked};
 ghost use Rattle.lent.specs.Check.{saidCheck};
 ghost use Rattle.refusal.specs.Outcome.{outcome};
-ghost use Rattle.image_snapshot.specs.Restore.{restoreOf};
 ghost use Rattle.tables.specs.Tables.{atEntry, atExit};
+ghost use Rattle.image_snapshot.specs.Restore.{restoreOf};
 use lent::Checked;
 use refusal::Refusal;
 

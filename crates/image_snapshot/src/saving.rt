@@ -3,9 +3,9 @@ ghost use mathlib.Core.Path.{_≡_};
 ghost use Rattle.image.specs.Image.{image};
 ghost use Rattle.lent.specs.Check.{checkOn};
 ghost use Rattle.refusal.specs.Outcome.{outcome, putFront};
-ghost use Rattle.image_snapshot.specs.Save.{saidSave};
 ghost use Rattle.tables.specs.Load.{load};
 ghost use Rattle.tables.specs.Tables.{given, atEntry};
+ghost use Rattle.image_snapshot.specs.Save.{saidSave};
 use super::Saved;
 use refusal::Refusal;
 

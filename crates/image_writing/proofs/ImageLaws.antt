@@ -10,12 +10,12 @@ use Rattle.bits.specs.Bits.{written}
 use Rattle.bits.proofs.Bytes.{written-written}
 use Rattle.bits.proofs.Numbers.{Below, below-append}
 use Rattle.image.specs.Image.{headerBits, padded, image}
-use Rattle.image.specs.inner.Parts.{Inside, Depth}
 use Rattle.image.specs.Widths.{heightWidth, nodeWidth}
+use Rattle.image.specs.inner.Parts.{Inside, Depth}
 use Rattle.image.proofs.ImageBits.{below-header, length-header, length-bytes}
-use Rattle.tables.specs.inner.Fit.{TablesFit}
 use Rattle.tables.specs.Load.{load}
 use Rattle.tables.specs.Tables.{Tables}
+use Rattle.tables.specs.inner.Fit.{TablesFit}
 use Rattle.image_writing.specs.inner.Words.{nodesBits, cellsBits, wordsBits, Counts}
 use Rattle.image_writing.proofs.FrontLaws.{image-front}
 use Rattle.image_writing.proofs.LengthLaws.{length-nodes, below-nodes, below-cells, cells-le, cells-most}

@@ -10,14 +10,14 @@ use mathlib.Core.Path.{_≡_, refl, sym, ap, _∙_}
 use borrow.Author.Tests.{eq-eqb, ne-eqb}
 use lib.Dec.{eqb}
 use lib.ListN.{length, length-append}
+use Rattle.basics.proofs.Tests.{Choice, yes!, no!, choice, equal?}
 use Rattle.bits.proofs.Numbers.{Below, below-nil}
-use Rattle.image.specs.inner.Parts.{Inside, Depth, rowBits, cellBits}
 use Rattle.image.specs.Widths.{messageWidth, nodeWidth}
+use Rattle.image.specs.inner.Parts.{Inside, Depth, rowBits, cellBits}
 use Rattle.image.proofs.Bounds.{messages-small}
 use Rattle.image.proofs.PartLaws.{length-row-bits, below-row-bits, length-cell-bits, below-cell-bits}
 use Rattle.image.proofs.RowsMore.{below-rows}
 use Rattle.protocol.specs.Network.{Node}
-use Rattle.basics.proofs.Tests.{Choice, yes!, no!, choice, equal?}
 use Rattle.tables.specs.Cell.{count}
 use Rattle.tables.specs.Rows.{rows}
 use Rattle.tables.specs.Tables.{width, cellWidth, nodeOf, channelOf}

@@ -13,11 +13,11 @@ use Rattle.image.specs.inner.Parts.{rowBits, cellBits}
 use Rattle.image.proofs.PartLaws.{row-bits, cell-bits}
 use Rattle.protocol.specs.Network.{Node, Message}
 use Rattle.tables.specs.Cell.{count, queue, messageWords}
-use Rattle.tables.specs.inner.Fit.{TablesFit}
 use Rattle.tables.specs.Load.{load}
 use Rattle.tables.specs.Records.{Records, recordsOf}
 use Rattle.tables.specs.Rows.{rows}
 use Rattle.tables.specs.Tables.{Tables, nodeOf, channelOf}
+use Rattle.tables.specs.inner.Fit.{TablesFit}
 use Rattle.tables.proofs.Back.{node-of, cell-of}
 use Rattle.tables.proofs.CellLaws.{messages-length}
 use Rattle.tables.proofs.RecordsLaws.{words-length, message-words}

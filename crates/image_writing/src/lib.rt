@@ -2,12 +2,12 @@
 // These are leaves: only our crates call them, with the bounds that `requires` states.
 ghost use mathlib.Core.List.{_++_};
 ghost use mathlib.Core.Path.{_≡_};
-ghost use Prim.Native.Nat.{_+_, _*_, _/_, _≤_};
+ghost use Prim.Native.Nat.{_+_, _≤_};
 ghost use lib.ListN.{length, drop};
 ghost use Rattle.image.specs.Image.{image};
-ghost use Rattle.tables.specs.inner.Fit.{TablesFit};
 ghost use Rattle.tables.specs.Load.{load};
 ghost use Rattle.tables.specs.Tables.{given, atEntry};
+ghost use Rattle.tables.specs.inner.Fit.{TablesFit};
 use image::DEPTH_WIDTH;
 use image::HEADER_END;
 use image::HEIGHT_WIDTH;

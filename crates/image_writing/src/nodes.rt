@@ -1,11 +1,11 @@
 // The header, the nodes' records, and the pad.
 ghost use mathlib.Core.Path.{_≡_};
-ghost use Prim.Native.Nat.{_+_, _-_, _*_, _%_, _^_, _≤_, _<_};
+ghost use Prim.Native.Nat.{_-_, _*_, _%_, _^_, _≤_, _<_};
 ghost use lib.ListN.{length, replicate};
 ghost use Rattle.bits.specs.Bits.{written};
 ghost use Rattle.image.specs.Image.{headerBits};
-ghost use Rattle.image.specs.inner.Parts.{Inside, Depth};
 ghost use Rattle.image.specs.Widths.{headerLength, nodeWidth};
+ghost use Rattle.image.specs.inner.Parts.{Inside, Depth};
 ghost use Rattle.tables.specs.Tables.{width};
 ghost use Rattle.image_writing.specs.inner.Words.{nodesBits};
 

@@ -7,11 +7,11 @@ use mathlib.Core.Path.{_≡_, refl, subst}
 use lib.Dec.{eqb, leb}
 use lib.ListN.{length}
 use borrow.Author.Tests.{leb-true, le-leb, eqb-true, eqb-false, eq-eqb}
-use Rattle.protocol.specs.Network.{Node}
 use Rattle.basics.proofs.Tests.{Choice, yes!, no!, choice, equal?, and-left, and-right}
-use Rattle.tables.specs.Tables.{Tables, sized, Sized, width, cellWidth}
+use Rattle.protocol.specs.Network.{Node}
 use Rattle.refusal.specs.Refusal.{why}
 use Rattle.refusal.specs.declared.Why.{Why}
+use Rattle.tables.specs.Tables.{Tables, sized, Sized, width, cellWidth}
 use Rattle.lent.specs.Check.{pairAt, faultInRow, faultFrom, orElse, firstFault, checkOn}
 
 -- ---- the sizes

@@ -9,30 +9,30 @@ use lib.Dec.{eqb}
 use lib.ListN.{getD, length, take, drop, replicate, length-replicate}
 use lib.Pow.{pow-pos}
 use borrow.Author.Tests.{eq-eqb, ne-eqb}
+use Rattle.basics.specs.Functions.{update}
+use Rattle.basics.proofs.FunctionsLaws.{update-at, update-off}
+use Rattle.basics.proofs.Tests.{equal?}
 use Rattle.height.specs.Height.{zeroHeight}
 use Rattle.height.specs.Words.{heightAt, deltaOf}
 use Rattle.height.specs.declared.Height.{Height}
 use Rattle.nodeset.specs.NodeSet.{member}
 use Rattle.nodeset.proofs.Members.{none-in-zero}
 use Rattle.protocol.specs.Network.{Node, atNodes, atPairs, freshHeight, fresh}
-use Rattle.basics.specs.Functions.{update}
 use Rattle.protocol.proofs.Restrict.{nodes-is, pairs-is, same-nodes, same-pairs}
-use Rattle.basics.proofs.Tests.{equal?}
-use Rattle.basics.proofs.FunctionsLaws.{update-at, update-off}
-use Rattle.tables.specs.inner.Fit.{RowFits, TablesFit}
+use Rattle.refusal.specs.Outcome.{outcome}
+use Rattle.refusal.specs.Refusal.{why}
 use Rattle.tables.specs.Cell.{emptied, queue}
 use Rattle.tables.specs.Load.{load, tablesOf, clockAt, neighborsAt, formingAt, heightsAt, messagesOn}
 use Rattle.tables.specs.Row.{clockIn, neighborsIn, formingIn, heightIn, putHeight}
 use Rattle.tables.specs.Rows.{rowAt}
 use Rattle.tables.specs.Tables.{Tables, tables, sized, Sized, width, cellWidth, nodeOf, putNode, pairOf, channelOf}
+use Rattle.tables.specs.inner.Fit.{RowFits, TablesFit}
 use Rattle.tables.proofs.CellLaws.{emptied-fits, queue-emptied}
 use Rattle.tables.proofs.RowLaws.{put-word, put-heights, put-fits}
 use Rattle.tables.proofs.RowsLaws.{row-fits, pair-lt, node-length, node-put, node-other, node-put-length, part-row, changed-row}
 use Rattle.tables.proofs.TablesLaws.{tables-back}
 use Rattle.tables.proofs.WordRuns.{part-run, run-zero}
 use Rattle.tables.proofs.Wordy.{Wordy}
-use Rattle.refusal.specs.Outcome.{outcome}
-use Rattle.refusal.specs.Refusal.{why}
 use Rattle.lent.specs.Fresh.{freshOn}
 
 -- ---- zero words

@@ -10,30 +10,30 @@ use lib.Dec.{eqb, leb, ltb}
 use lib.ListN.{getD, length, drop}
 use lib.Seq.{getD-take, getD-drop}
 use borrow.Author.Tests.{eq-eqb, ne-eqb, le-leb, ltb-true, ltb-false}
+use Rattle.basics.proofs.FunctionsLaws.{every-all}
+use Rattle.basics.proofs.Tests.{clash, not-true-is-false, Choice, yes!, no!, choice, equal?, and-both}
 use Rattle.height.specs.Clock.{lastTime}
 use Rattle.height.specs.Height.{heightKey, zeroHeight}
 use Rattle.height.specs.Order.{same}
 use Rattle.height.specs.Words.{heightAt, deltaOf}
-use Rattle.basics.proofs.Tests.{clash, not-true-is-false, Choice, yes!, no!, choice, equal?, and-both}
 use Rattle.height.proofs.OrderLaws.{same-refl}
 use Rattle.nodeset.specs.NodeSet.{member}
-use Rattle.protocol.specs.Network.{Node, capacity, fresh, restrict}
+use Rattle.pairs.specs.Pair.{viewSound}
+use Rattle.pairs.proofs.HeldPairs.{OwnHolds}
 use Rattle.protocol.specs.Holds.{heightHolds, isEmpty, ownHolds, viewHolds, channelHolds, pairHolds, nodeHolds, sound}
-use Rattle.protocol.proofs.Restrict.{pairs-is, nodes-is}
-use Rattle.basics.proofs.FunctionsLaws.{every-all}
+use Rattle.protocol.specs.Network.{Node, capacity, fresh, restrict}
 use Rattle.protocol.proofs.NodeLaws.{other-fails}
+use Rattle.protocol.proofs.Restrict.{pairs-is, nodes-is}
 use Rattle.tables.specs.Cell.{count, queue, messagesAt, allZero}
-use Rattle.tables.specs.inner.Fit.{TablesFit}
 use Rattle.tables.specs.Load.{load}
 use Rattle.tables.specs.Row.{clockIn, neighborsIn, formingIn, heightIn}
 use Rattle.tables.specs.Rows.{part}
 use Rattle.tables.specs.Tables.{Tables, width, nodeOf, channelOf}
+use Rattle.tables.specs.inner.Fit.{TablesFit}
 use Rattle.tables.proofs.CellLaws.{messages-length}
 use Rattle.tables.proofs.RowLaws.{height-past}
 use Rattle.tables.proofs.TablesLaws.{load-clock, load-neighbors, load-forming, load-height, load-channel, member-node}
 use Rattle.tables.proofs.WordRuns.{zero-at}
-use Rattle.pairs.specs.Pair.{viewSound}
-use Rattle.pairs.proofs.HeldPairs.{OwnHolds}
 use Rattle.lent.specs.Check.{checkOn}
 use Rattle.lent.proofs.SoundTables.{Words, row-word, sound-own, sound-view, sound-channel}
 

@@ -10,17 +10,19 @@ use lib.Dec.{eqb, leb}
 use lib.ListN.{length, take, drop, replicate, length-map}
 use lib.Seq.{drop-append-add}
 use borrow.Author.Tests.{eq-eqb, ne-eqb, leb-true}
+use Rattle.basics.specs.Functions.{every, all}
+use Rattle.basics.proofs.AllOf.{more}
+use Rattle.basics.proofs.FunctionsLaws.{every-at, every-all}
+use Rattle.basics.proofs.Tests.{clash, Choice, yes!, no!, choice, equal?, and-left, and-right, and-both}
 use Rattle.height.specs.Height.{zeroHeight}
 use Rattle.height.specs.Words.{heightWords, deltaWord}
-use Rattle.basics.proofs.Tests.{clash, Choice, yes!, no!, choice, equal?, and-left, and-right, and-both}
 use Rattle.nodeset.specs.NodeSet.{member, setOf, within}
 use Rattle.nodeset.proofs.Members.{member-setOf, setOf-lt, lt-within}
-use Rattle.protocol.specs.Network.{Node, Message, Network, upTo, capacity}
-use Rattle.basics.specs.Functions.{every, all}
+use Rattle.pairs.specs.Pair.{ownSound, viewSound, channelSound, pairSound}
 use Rattle.protocol.specs.Holds.{heightHolds, messageHolds, notInBoth, setsHold, isEmpty, ownHolds, viewHolds, channelHolds, pairHolds, nodeHolds, sound}
-use Rattle.basics.proofs.AllOf.{more}
+use Rattle.protocol.specs.Network.{Node, Message, Network, upTo, capacity}
 use Rattle.protocol.proofs.Ranges.{zero-height}
-use Rattle.basics.proofs.FunctionsLaws.{every-at, every-all}
+use Rattle.refusal.specs.Refusal.{why}
 use Rattle.tables.specs.Cell.{count, messageWords, allZero}
 use Rattle.tables.specs.Load.{tablesOf}
 use Rattle.tables.specs.Records.{recordsOf, rowWords, slotWords, cellWords}
@@ -30,10 +32,8 @@ use Rattle.tables.specs.Tables.{sized}
 use Rattle.tables.proofs.Back.{Storable, node-of, cell-of, node-height, queue-back, tables-sized}
 use Rattle.tables.proofs.RecordsLaws.{Eights, words-length, message-words}
 use Rattle.tables.proofs.RowsMore.{rows-at}
-use Rattle.pairs.specs.Pair.{ownSound, viewSound, channelSound, pairSound}
-use Rattle.lent.proofs.CheckLaws.{is-sized}
-use Rattle.refusal.specs.Refusal.{why}
 use Rattle.lent.specs.Check.{pairAt, faultInRow, faultFrom, firstFault, checkOn}
+use Rattle.lent.proofs.CheckLaws.{is-sized}
 
 -- ---- zero words
 

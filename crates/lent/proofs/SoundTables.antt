@@ -9,18 +9,18 @@ use mathlib.Core.Path.{_≡_, refl, sym, ap, _∙_}
 use lib.ListN.{getD, length, drop}
 use lib.Seq.{getD-take, getD-drop}
 use borrow.Author.Tests.{eq-eqb, ne-eqb}
-use Rattle.nodeset.proofs.Members.{within-true}
-use Rattle.protocol.specs.Network.{Node}
 use Rattle.basics.proofs.Tests.{equal?, and-left, and-right}
-use Rattle.tables.specs.inner.Fit.{CellFits, RowFits, TablesFit}
+use Rattle.nodeset.proofs.Members.{within-true}
+use Rattle.pairs.specs.Pair.{viewSound, channelSound, pairSound}
+use Rattle.pairs.proofs.HeldPairs.{OwnHolds, ChannelHolds, own-holds, channel-holds}
+use Rattle.protocol.specs.Network.{Node}
 use Rattle.tables.specs.Cell.{count, allZero}
 use Rattle.tables.specs.Row.{neighborsIn, formingIn}
 use Rattle.tables.specs.Rows.{rowAt}
 use Rattle.tables.specs.Tables.{Tables, Sized, width, cellWidth, nodeOf, pairOf, channelOf}
+use Rattle.tables.specs.inner.Fit.{CellFits, RowFits, TablesFit}
 use Rattle.tables.proofs.RowsLaws.{node-length, channel-length}
 use Rattle.tables.proofs.WordRuns.{zero-at}
-use Rattle.pairs.specs.Pair.{viewSound, channelSound, pairSound}
-use Rattle.pairs.proofs.HeldPairs.{OwnHolds, ChannelHolds, own-holds, channel-holds}
 use Rattle.lent.specs.Check.{pairAt, checkOn}
 use Rattle.lent.proofs.CheckLaws.{sound-sized, sound-place}
 

@@ -4,12 +4,12 @@ use native.Mathlib.Numerals.{add-one}
 use native.Mathlib.Omega.{arith}
 use mathlib.Core.Bool.{Bool, true, false}
 use mathlib.Core.Path.{_≡_, refl, ap, sym, _∙_}
-use Rattle.lent.specs.declared.Checked.{Checked}
-use Rattle.lent.specs.declared.Checked.the-variants.{Sound, Refused}
-use Rattle.refusal.specs.declared.Refusal.the-variants.{Fault}
 use Rattle.refusal.specs.Refusal.{why}
+use Rattle.refusal.specs.declared.Refusal.the-variants.{Fault}
 use Rattle.refusal.specs.declared.Why.{Why}
 use Rattle.lent.specs.Check.{saidCheck, faultInRow, faultFrom, orElse}
+use Rattle.lent.specs.declared.Checked.the-variants.{Sound, Refused}
+use Rattle.lent.specs.declared.Checked.{Checked}
 
 -- at the outer head, with row u next: no fault yet, and the whole answer is that of the rows from u on
 pub record Rows (s : ℕ → ℕ → Bool) (n : ℕ) (found : Checked) (u : ℕ) : Type 0 where

@@ -3,12 +3,12 @@
 use Prim.Native.Nat.{ℕ, zero, suc}
 use mathlib.Core.Bool.{Bool, cond}
 use lib.Dec.{eqb}
-use Rattle.tables.specs.Tables.{Tables, sized, nodeOf, channelOf}
 use Rattle.pairs.specs.Pair.{pairSound}
 use Rattle.refusal.specs.Refusal.{why, whyOf}
 use Rattle.refusal.specs.declared.Why.{Why}
-use Rattle.lent.specs.declared.Checked.{Checked}
+use Rattle.tables.specs.Tables.{Tables, sized, nodeOf, channelOf}
 use Rattle.lent.specs.declared.Checked.the-variants.{Sound, Refused}
+use Rattle.lent.specs.declared.Checked.{Checked}
 
 -- what a check says: 0, or 1, or 2 with the pair
 abbrev pub saidCheck : Checked → Why

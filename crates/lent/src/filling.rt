@@ -5,8 +5,6 @@ ghost use Rattle.protocol.specs.Network.{fresh, freshHeight};
 ghost use Rattle.tables.specs.Load.{tablesOf};
 ghost use Rattle.tables.specs.Tables.{given, atExit, Sized};
 use height::Height;
-use height::LeaderPair;
-use height::ReferenceLevel;
 use height::Time;
 
 // (0, 0, 0, 0, 0, k, k)

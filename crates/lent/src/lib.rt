@@ -1,8 +1,8 @@
 // The lent tables' one door: `check` answers refusals 1 and 2 for every routine that reads tables, `is_sized` 1 for those that fill them.
 // No function requires anything: what cannot be done is refused, and nothing lent changes.
 ghost use mathlib.Core.Path.{_≡_};
-ghost use Rattle.tables.specs.Tables.{atEntry, atExit, sized};
 ghost use Rattle.refusal.specs.Outcome.{outcome};
+ghost use Rattle.tables.specs.Tables.{atEntry, atExit, sized};
 ghost use Rattle.lent.specs.Check.{saidCheck, checkOn};
 ghost use Rattle.lent.specs.Fresh.{freshOn};
 use refusal::Refusal;

@@ -6,11 +6,11 @@ use mathlib.Core.Path.{_≡_}
 use lib.Dec.{eqb, leb}
 use lib.ListN.{drop}
 use borrow.Author.Tests.{leb-true}
-use Rattle.nodeset.specs.NodeSet.{member, within}
 use Rattle.basics.specs.Functions.{all}
+use Rattle.basics.proofs.Tests.{and-left, and-right}
+use Rattle.nodeset.specs.NodeSet.{member, within}
 use Rattle.protocol.specs.Holds.{heightHolds, messageHolds, setsHold}
 use Rattle.protocol.specs.Network.{capacity}
-use Rattle.basics.proofs.Tests.{and-left, and-right}
 use Rattle.tables.specs.Cell.{count, queue, allZero}
 use Rattle.tables.specs.Row.{neighborsIn, formingIn, heightIn}
 use Rattle.pairs.specs.Pair.{ownSound, channelSound}

@@ -8,10 +8,10 @@ use lib.Dec.{eqb}
 use lib.ListN.{getD, take, drop}
 use lib.Pow.{field, mod-mod-pow}
 use borrow.Author.Tests.{le-leb, lt-leb}
+use Rattle.basics.specs.Functions.{all}
 use Rattle.height.specs.Clock.{lastTime}
 use Rattle.height.specs.Words.{heightAt}
 use Rattle.nodeset.specs.NodeSet.{member}
-use Rattle.basics.specs.Functions.{all}
 use Rattle.protocol.specs.Holds.{heightHolds, messageHolds}
 use Rattle.tables.specs.Cell.{count, messageAt, messagesAt, queue, allZero}
 use Rattle.tables.specs.Row.{neighborsIn, formingIn}

@@ -5,8 +5,8 @@ use mathlib.Core.Bool.{Bool, cond, _&&_, _||_}
 use mathlib.Core.List.{List}
 use lib.Dec.{eqb, leb}
 use lib.ListN.{drop}
-use Rattle.nodeset.specs.NodeSet.{member, within}
 use Rattle.basics.specs.Functions.{all}
+use Rattle.nodeset.specs.NodeSet.{member, within}
 use Rattle.protocol.specs.Holds.{heightHolds, messageHolds, setsHold}
 use Rattle.protocol.specs.Network.{capacity}
 use Rattle.tables.specs.Cell.{count, slot, queue, allZero}

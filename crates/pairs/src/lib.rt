@@ -3,10 +3,10 @@
 ghost use mathlib.Core.Path.{_≡_};
 ghost use Prim.Native.Nat.{_≤_};
 ghost use lib.ListN.{length};
-ghost use Rattle.nodeset.specs.NodeSet.{member};
-ghost use Rattle.protocol.specs.Network.{Node, capacity};
 ghost use Rattle.basics.specs.Functions.{all};
+ghost use Rattle.nodeset.specs.NodeSet.{member};
 ghost use Rattle.protocol.specs.Holds.{messageHolds};
+ghost use Rattle.protocol.specs.Network.{Node, capacity};
 ghost use Rattle.tables.specs.Cell.{slot, messagesAt};
 ghost use Rattle.tables.specs.Tables.{width, cellWidth};
 ghost use Rattle.pairs.specs.Pair.{ownSound, viewSound, channelSound, pairSound};

@@ -5,11 +5,11 @@ use mathlib.Core.Bool.{Bool, true, false, not, cond, _&&_}
 use mathlib.Core.Path.{_≡_, refl}
 use lib.Dec.{ltb, eqb}
 use borrow.Author.Tests.{eqb-true, eqb-false, not-true, not-false, ltb-false}
-use Rattle.protocol.specs.Network.{Node, Network, isNode}
 use Rattle.basics.specs.Functions.{every}
+use Rattle.basics.proofs.Tests.{and-left, and-right}
+use Rattle.protocol.specs.Network.{Node, Network, isNode}
 use Rattle.protocol.specs.Refusal.{misnamed, unfit, unfitNumber, late, tooDeep, hasRoom, crowded, returned, accepts}
 use Rattle.protocol.specs.Step.{Event, up, down, receive, home, peer, local, cleared}
-use Rattle.basics.proofs.Tests.{and-left, and-right}
 use Rattle.protocol.proofs.NodeLaws.{is-node}
 
 not-equal : (u v : ℕ) → not (eqb u v) ≡ true → u ≡ v → ⊥

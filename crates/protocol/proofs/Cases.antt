@@ -2,14 +2,14 @@
 -- with its times within its clocks, and rules, sets sent to, clocks and own heights come out as the tables say.
 use mathlib.Core.List.{map}
 use mathlib.Core.Path.{_≡_, refl}
+use Rattle.basics.specs.Functions.{every, all, update}
 use Rattle.height.specs.Height.{levelKey, pairKey, heightKey}
 use Rattle.height.specs.Order.{before, same}
 use Rattle.nodeset.specs.NodeSet.{setOf}
 use Rattle.protocol.specs.Cases.{Case, cases, readings, outcomeOf}
-use Rattle.protocol.specs.Quiet.{pairQuiet, nodeQuiet, quiet}
-use Rattle.basics.specs.Functions.{every, all, update}
 use Rattle.protocol.specs.Holds.{levelHolds, deltaHolds, leaderPairHolds, heightHolds, messageHolds, notInBoth}
 use Rattle.protocol.specs.Holds.{setsHold, ownHolds, viewHolds, channelHolds, pairHolds, nodeHolds, sound}
+use Rattle.protocol.specs.Quiet.{pairQuiet, nodeQuiet, quiet}
 use Rattle.protocol.specs.Refusal.{misnamed, late, hasRoom, crowded, returned, accepts, answer, next}
 use Rattle.protocol.specs.Rules.{absent, downRule, larger, largest, deltas, ofLevel, oneLevelRule, equalPairsRule, receiptRule}
 use Rattle.protocol.specs.Sink.{above, sink}

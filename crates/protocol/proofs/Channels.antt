@@ -6,13 +6,13 @@ use mathlib.Core.List.{List, [], _∷_, tail}
 use mathlib.Core.Path.{_≡_, refl, _∙_}
 use lib.ListN.{length}
 use borrow.Author.Tests.{ne-eqb}
-use Rattle.basics.proofs.Tests.{clash, Choice, yes!, no!, choice, both-equal}
-use Rattle.nodeset.specs.NodeSet.{digit}
-use Rattle.protocol.specs.Step.{isDown, isReceipt, Event, up, down, receive, home, cleared, post}
-use Rattle.protocol.specs.Holds.{isEmpty}
-use Rattle.protocol.specs.Network.{Message, Network}
 use Rattle.basics.proofs.AllOf.{AllOf, none, more, all-tail}
 use Rattle.basics.proofs.FunctionsLaws.{cell-at, cell-off}
+use Rattle.basics.proofs.Tests.{clash, Choice, yes!, no!, choice, both-equal}
+use Rattle.nodeset.specs.NodeSet.{digit}
+use Rattle.protocol.specs.Holds.{isEmpty}
+use Rattle.protocol.specs.Network.{Message, Network}
+use Rattle.protocol.specs.Step.{isDown, isReceipt, Event, up, down, receive, home, cleared, post}
 
 -- ---- empty: by its length, and by the test
 

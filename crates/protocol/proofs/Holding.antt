@@ -8,23 +8,23 @@ use mathlib.Core.Path.{_≡_, refl, sym}
 use lib.Dec.{eqb}
 use lib.ListN.{length}
 use borrow.Author.Tests.{eq-eqb, ne-eqb, le-leb}
+use Rattle.basics.specs.Functions.{all}
+use Rattle.basics.proofs.AllOf.{AllOf, more}
+use Rattle.basics.proofs.FunctionsLaws.{every-all}
+use Rattle.basics.proofs.Tests.{Choice, yes!, no!, choice, SameOrNot, equal?, and-both}
 use Rattle.height.specs.Clock.{lastTime}
 use Rattle.height.specs.Height.{heightKey, zeroHeight}
 use Rattle.height.specs.Order.{same}
 use Rattle.height.specs.declared.Height.{Height}
 use Rattle.height.proofs.OrderLaws.{same-refl}
-use Rattle.protocol.specs.Network.{Node, Message, Network, upTo, capacity}
-use Rattle.basics.specs.Functions.{all}
 use Rattle.protocol.specs.Holds.{heightHolds, messageHolds, notInBoth, setsHold, isEmpty, ownHolds, viewHolds, channelHolds, pairHolds, nodeHolds, sound}
+use Rattle.protocol.specs.Network.{Node, Message, Network, upTo, capacity}
 use Rattle.protocol.specs.Times.{timesWithin, messageTimely, pairTimely, nodeTimely, timely}
-use Rattle.basics.proofs.AllOf.{AllOf, more}
 use Rattle.protocol.proofs.Channels.{empty-is}
 use Rattle.protocol.proofs.Invariant.{PostedBy, Inv}
 use Rattle.protocol.proofs.Ranges.{negated-le, height-holds}
 use Rattle.protocol.proofs.RuleLaws.{Bounded}
 use Rattle.protocol.proofs.Soundness.{MessageFits, Fits, diagonal}
-use Rattle.basics.proofs.Tests.{Choice, yes!, no!, choice, SameOrNot, equal?, and-both}
-use Rattle.basics.proofs.FunctionsLaws.{every-all}
 
 -- ---- messages
 

@@ -5,17 +5,17 @@ use mathlib.Core.Bool.{Bool, true, false}
 use mathlib.Core.List.{List}
 use mathlib.Core.Logic.{inl, inr}
 use mathlib.Core.Path.{_≡_, refl, sym, _∙_}
-use Rattle.height.specs.declared.Height.{Height}
 use Rattle.basics.specs.Functions.{update}
+use Rattle.basics.proofs.AllOf.{AllOf, all-weaker}
+use Rattle.basics.proofs.FunctionsLaws.{update-at, update-off, row-at, row-off}
+use Rattle.basics.proofs.Tests.{SameOrNot, equal?}
+use Rattle.height.specs.declared.Height.{Height}
 use Rattle.protocol.specs.Network.{Message, Network}
 use Rattle.protocol.specs.Sink.{sink}
 use Rattle.protocol.specs.Step.{Local, post, commit}
-use Rattle.basics.proofs.AllOf.{AllOf, all-weaker}
 use Rattle.protocol.proofs.Channels.{post-all}
 use Rattle.protocol.proofs.LinkLaws.{Side, Link, flip, drained}
 use Rattle.protocol.proofs.RuleLaws.{Bounded}
-use Rattle.basics.proofs.Tests.{SameOrNot, equal?}
-use Rattle.basics.proofs.FunctionsLaws.{update-at, update-off, row-at, row-off}
 
 -- a message that u can have posted by the time c
 pub record PostedBy (c u : ℕ) (m : Message) : Type 0 where

@@ -6,9 +6,10 @@ use mathlib.Core.Logic.{inl, inr}
 use mathlib.Core.Path.{_≡_, refl, sym, _∙_}
 use lib.IntN.{pos}
 use borrow.Author.Tests.{eq-eqb, ne-eqb}
-use Rattle.height.specs.declared.Height.{Height}
-use Rattle.basics.proofs.Tests.{clash, SameOrNot, equal?, not-both}
 use Rattle.basics.specs.Functions.{update}
+use Rattle.basics.proofs.FunctionsLaws.{update-at, update-off, update-all}
+use Rattle.basics.proofs.Tests.{clash, SameOrNot, equal?, not-both}
+use Rattle.height.specs.declared.Height.{Height}
 use Rattle.protocol.specs.Network.{Network, upTo}
 use Rattle.protocol.specs.Rules.{downRule}
 use Rattle.protocol.specs.Step.{Event, up, down, receive, home, peer, heightAfter, sends, Local, carried, cleared, commit}
@@ -16,9 +17,8 @@ use Rattle.protocol.specs.declared.Rule.{Rule}
 use Rattle.protocol.proofs.Channels.{cleared-off, cleared-is, cleared-all}
 use Rattle.protocol.proofs.Invariant.{PostedBy, NodeInv, sideOf, Inv, news, LinkAfter, commit-inv, SameBut}
 use Rattle.protocol.proofs.LinkLaws.{Informed, tells, silent, spoken, speak, drained}
-use Rattle.protocol.proofs.RuleLaws.{Bounded, later}
 use Rattle.protocol.proofs.RuleCases.{downCases, Sending, toAll, toOne, toNone, Kept}
-use Rattle.basics.proofs.FunctionsLaws.{update-at, update-off, update-all}
+use Rattle.protocol.proofs.RuleLaws.{Bounded, later}
 
 -- what w hears of the rule at u, w not the event's own v
 informed : (v : ℕ) (old h : Height) (r : Rule) → Sending v old h r → (w : ℕ) (b : Bool) → (w ≡ v → ⊥) → Informed old h (sends v r w b) b

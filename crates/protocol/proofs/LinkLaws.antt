@@ -5,8 +5,8 @@ use native.Mathlib.Omega.{arith}
 use mathlib.Core.Bool.{Bool, true, false, _||_, or-true}
 use mathlib.Core.List.{List, [], _∷_, _++_}
 use mathlib.Core.Path.{_≡_, refl, sym, _∙_}
-use Rattle.height.specs.declared.Height.{Height}
 use Rattle.basics.proofs.Tests.{clash}
+use Rattle.height.specs.declared.Height.{Height}
 use Rattle.protocol.specs.Network.{Message}
 use Rattle.protocol.specs.Step.{post}
 use Rattle.protocol.proofs.RuleLaws.{PairLe, PairLe-trans}

@@ -7,15 +7,15 @@ use mathlib.Core.Logic.{inl, inr}
 use mathlib.Core.Path.{_≡_, refl, sym, ap, _∙_}
 use borrow.Author.Tests.{eq-eqb}
 use Rattle.basics.specs.Functions.{update}
-use Rattle.protocol.specs.Step.{isReceipt, Event, up, down, receive, home, Local, localUp, localDown, localIgnored}
+use Rattle.basics.proofs.FunctionsLaws.{update-at, update-off, row-off}
+use Rattle.basics.proofs.Tests.{Choice, yes!, no!, choice, SameOrNot, equal?}
 use Rattle.protocol.specs.Holds.{isEmpty}
 use Rattle.protocol.specs.Network.{Message, Network}
 use Rattle.protocol.specs.Refusal.{unfit, returned, accepts, answer, next}
+use Rattle.protocol.specs.Step.{isReceipt, Event, up, down, receive, home, Local, localUp, localDown, localIgnored}
 use Rattle.protocol.specs.Step.{localTaken, localReceipt, local, cleared, post, commit, step}
 use Rattle.protocol.proofs.Channels.{cleared-receipt, not-down, cleared-off}
 use Rattle.protocol.proofs.RuleLaws.{byCases}
-use Rattle.basics.proofs.Tests.{Choice, yes!, no!, choice, SameOrNot, equal?}
-use Rattle.basics.proofs.FunctionsLaws.{update-at, update-off, row-off}
 
 -- u's record and the channels from u are the same in both
 pub record SameAt (u : ℕ) (p q : Network) : Type 0 where

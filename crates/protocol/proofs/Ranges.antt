@@ -8,13 +8,13 @@ use lib.Dec.{eqb, leb}
 use lib.IntN.{ℤ, pos, negsuc, negℤ}
 use lib.Signed.{ltZ, leZ}
 use borrow.Author.Tests.{eqb-true, eq-eqb, ne-eqb, leb-true, ltb-false, le-leb, le-ltb}
+use Rattle.basics.proofs.Tests.{clash, SameOrNot, equal?, and-left, and-right}
 use Rattle.height.specs.Clock.{lastTime}
 use Rattle.height.specs.Height.{levelKey, pairKey, heightKey, zeroHeight}
 use Rattle.height.specs.Order.{same}
 use Rattle.height.specs.declared.Height.{Height}
 use Rattle.height.specs.declared.LeaderPair.{LeaderPair}
 use Rattle.height.specs.declared.ReferenceLevel.{ReferenceLevel}
-use Rattle.basics.proofs.Tests.{clash, SameOrNot, equal?, and-left, and-right}
 use Rattle.height.proofs.OrderLaws.{same-is}
 use Rattle.protocol.specs.Holds.{levelHolds, leastDelta, greatestDelta, deltaHolds, leaderPairHolds, heightHolds}
 

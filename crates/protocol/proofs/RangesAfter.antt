@@ -8,23 +8,23 @@ use mathlib.Core.Path.{_≡_, refl}
 use lib.IntN.{ℤ, pos, negsuc, sucℤ, predℤ}
 use lib.Signed.{ltZ}
 use borrow.Author.Tests.{ltb-false, le-ltb}
+use Rattle.basics.proofs.AllOf.{AllOf, none, more}
+use Rattle.basics.proofs.Tests.{and-left}
 use Rattle.height.specs.Clock.{lastTime}
 use Rattle.height.specs.Height.{levelKey, zeroLevel}
 use Rattle.height.specs.Order.{before, same}
 use Rattle.height.specs.declared.Height.{Height}
 use Rattle.height.specs.declared.ReferenceLevel.{ReferenceLevel}
-use Rattle.protocol.specs.Network.{Node}
 use Rattle.protocol.specs.Holds.{leastDelta, greatestDelta}
+use Rattle.protocol.specs.Network.{Node}
 use Rattle.protocol.specs.Refusal.{tooDeep}
 use Rattle.protocol.specs.Rules.{downRule, larger, largest, deltas, smaller, smallestFrom, smallest}
 use Rattle.protocol.specs.Step.{heightAfter}
-use Rattle.protocol.specs.declared.Rule.{Rule}
 use Rattle.protocol.specs.declared.Rule.the-variants.{ElectSelf, StartNewRefLevel}
-use Rattle.basics.proofs.AllOf.{AllOf, none, more}
-use Rattle.protocol.proofs.RuleLaws.{byCases}
-use Rattle.protocol.proofs.RuleCases.{Verdict, isA, isR, isQ, isF, isE, isS, isP, downCases}
-use Rattle.basics.proofs.Tests.{and-left}
+use Rattle.protocol.specs.declared.Rule.{Rule}
 use Rattle.protocol.proofs.Ranges.{LevelFits, DeltaFits, HeightFits}
+use Rattle.protocol.proofs.RuleCases.{Verdict, isA, isR, isQ, isF, isE, isS, isP, downCases}
+use Rattle.protocol.proofs.RuleLaws.{byCases}
 
 -- ---- the zero level, the largest level, the smallest depth
 

@@ -8,8 +8,8 @@ use mathlib.Core.Path.{_≡_, sym, fun-ext}
 use borrow.Author.Tests.{ne-eqb}
 use Rattle.basics.proofs.Tests.{not-true-is-false, Choice, yes!, no!, choice, SameOrNot, equal?}
 use Rattle.protocol.specs.Network.{Node, Network, isNode, fresh, atNodes, atPairs, restrict}
-use Rattle.protocol.proofs.Soundness.{Fits}
 use Rattle.protocol.proofs.NodeLaws.{is-node, no-node}
+use Rattle.protocol.proofs.Soundness.{Fits}
 
 -- ---- functions that agree outside 1 to n
 

@@ -8,20 +8,20 @@ use mathlib.Core.Path.{_≡_, refl, ap, _∙_}
 use lib.Dec.{ltb, eqb}
 use lib.IntN.{ℤ, pos, sucℤ}
 use borrow.Author.Tests.{ltb-true, eqb-true, eq-eqb, not-true, not-false}
+use Rattle.basics.specs.Functions.{every, update}
+use Rattle.basics.proofs.FunctionsLaws.{Found, every-not, update-at, update-off, update-self}
+use Rattle.basics.proofs.Tests.{clash, Choice, yes!, no!, choice, and-left, and-right}
 use Rattle.height.specs.Height.{levelKey, pairKey, heightKey, selfElected}
 use Rattle.height.specs.Order.{before, same}
 use Rattle.height.specs.declared.Height.{Height}
 use Rattle.height.specs.declared.ReferenceLevel.{ReferenceLevel}
-use Rattle.basics.proofs.Tests.{clash, Choice, yes!, no!, choice, and-left, and-right}
 use Rattle.height.proofs.OrderLaws.{before-less, before-equal, before-asym, before-total, ltZ-pos, ltZ-suc, same-of}
-use Rattle.basics.specs.Functions.{every, update}
 use Rattle.protocol.specs.Rules.{absent, downRule, largest, ofLevel, oneLevelRule, equalPairsRule, receiptRule}
 use Rattle.protocol.specs.Sink.{sink}
 use Rattle.protocol.specs.Step.{heightAfter, sends}
-use Rattle.protocol.specs.declared.Rule.{Rule}
 use Rattle.protocol.specs.declared.Rule.the-variants.{AdoptLpIfPriority, ElectSelf, ReflectRefLevel}
 use Rattle.protocol.specs.declared.Rule.the-variants.{PropagateLargestRefLevel, NoChange, Reply, StartNewRefLevel}
-use Rattle.basics.proofs.FunctionsLaws.{Found, every-not, update-at, update-off, update-self}
+use Rattle.protocol.specs.declared.Rule.{Rule}
 use Rattle.protocol.proofs.RuleLaws.{byCases, Bounded, later, PairLe, PairLe-refl, level-below, elected-below}
 use Rattle.protocol.proofs.RuleLaws.{not-sink-by-height, not-sink-by-pair, not-sink-by-leader, largest-above, largest-tau}
 

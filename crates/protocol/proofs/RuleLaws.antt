@@ -7,15 +7,15 @@ use mathlib.Core.Logic.{inl, inr}
 use mathlib.Core.Path.{_≡_, refl}
 use lib.IntN.{ℤ, pos, negℤ}
 use borrow.Author.Tests.{eq-eqb}
+use Rattle.basics.proofs.FunctionsLaws.{every-false}
+use Rattle.basics.proofs.Tests.{clash, Choice, yes!, no!, choice, SameOrNot, equal?}
 use Rattle.height.specs.Height.{levelKey, pairKey, heightKey, selfElected}
 use Rattle.height.specs.Order.{before, same}
 use Rattle.height.specs.declared.Height.{Height}
 use Rattle.height.specs.declared.ReferenceLevel.{ReferenceLevel}
-use Rattle.basics.proofs.Tests.{clash, Choice, yes!, no!, choice, SameOrNot, equal?}
 use Rattle.height.proofs.OrderLaws.{before-less, before-asym, before-append, before-irrefl, not-before-trans, ltZ-neg}
 use Rattle.protocol.specs.Rules.{larger, largest}
 use Rattle.protocol.specs.Sink.{above, sink}
-use Rattle.basics.proofs.FunctionsLaws.{every-false}
 
 -- what holds of x if b, and of y if not, holds of the one that b picks
 pub byCases : {X : Type 0} (G : X → Type 0) (b : Bool) (x y : X) → (b ≡ true → G x) → (b ≡ false → G y) → G (cond b x y)

@@ -4,15 +4,15 @@ use Prim.Native.Nat.{ℕ}
 use mathlib.Core.Bool.{cond}
 use mathlib.Core.Path.{_≡_, refl, sym, ap, _∙_}
 use lib.Dec.{eqb}
-use Rattle.refusal.proofs.RefusalLaws.{reasonFrom, reason-back, never-0}
 use Rattle.refusal.specs.Refusal.{whyOf}
 use Rattle.refusal.specs.declared.Refusal.{Refusal}
+use Rattle.refusal.proofs.RefusalLaws.{reasonFrom, reason-back, never-0}
 use Rattle.protocol.specs.Answer.{Said, carriedOut, saidRule, saidRefused, said}
-use Rattle.protocol.specs.declared.Answer.{Answer}
 use Rattle.protocol.specs.declared.Answer.the-variants.{Done, Refused}
-use Rattle.protocol.specs.declared.Rule.{Rule}
+use Rattle.protocol.specs.declared.Answer.{Answer}
 use Rattle.protocol.specs.declared.Rule.the-variants.{ChannelUp, ElectSelf, StartNewRefLevel, NoChange, Ignored}
 use Rattle.protocol.specs.declared.Rule.the-variants.{ReflectRefLevel, PropagateLargestRefLevel, AdoptLpIfPriority, Reply}
+use Rattle.protocol.specs.declared.Rule.{Rule}
 
 -- an accepted answer says 0, its letter and its set
 pub rule-said : (rule : Rule) (set : ℕ)

@@ -9,25 +9,25 @@ use mathlib.Core.Path.{_≡_, refl, sym, ap, _∙_}
 use lib.Dec.{leb}
 use lib.ListN.{length}
 use borrow.Author.Tests.{eq-eqb, ne-eqb, leb-true, not-true}
+use Rattle.basics.specs.Functions.{every, all}
+use Rattle.basics.proofs.AllOf.{AllOf, none, more}
+use Rattle.basics.proofs.FunctionsLaws.{every-at}
+use Rattle.basics.proofs.Tests.{clash, Choice, yes!, no!, choice, SameOrNot, equal?, and-left, and-right}
 use Rattle.height.specs.Clock.{lastTime}
 use Rattle.height.specs.Height.{zeroHeight}
-use Rattle.basics.proofs.Tests.{clash, Choice, yes!, no!, choice, SameOrNot, equal?, and-left, and-right}
-use Rattle.protocol.specs.Network.{Node, Message, Network, isNode, upTo, capacity, fresh, atNodes, atPairs, restrict}
-use Rattle.basics.specs.Functions.{every, all}
 use Rattle.protocol.specs.Holds.{heightHolds, messageHolds, notInBoth, setsHold, isEmpty, ownHolds, viewHolds, channelHolds, pairHolds, nodeHolds, sound}
+use Rattle.protocol.specs.Network.{Node, Message, Network, isNode, upTo, capacity, fresh, atNodes, atPairs, restrict}
 use Rattle.protocol.specs.Refusal.{accepts, next}
 use Rattle.protocol.specs.Step.{Event, step}
-use Rattle.basics.proofs.AllOf.{AllOf, none, more}
-use Rattle.protocol.proofs.Channels.{is-empty}
 use Rattle.protocol.proofs.Accepted.{accepts-accepted}
+use Rattle.protocol.proofs.Channels.{is-empty}
 use Rattle.protocol.proofs.Holding.{sound-holds}
+use Rattle.protocol.proofs.NodeLaws.{is-node, no-node}
 use Rattle.protocol.proofs.Ranges.{HeightFits, height-fits, zero-height}
 use Rattle.protocol.proofs.Restrict.{restrict-is}
 use Rattle.protocol.proofs.RuleLaws.{byCases}
 use Rattle.protocol.proofs.Soundness.{Ranged, MessageFits, Fits}
 use Rattle.protocol.proofs.StepFits.{step-fits}
-use Rattle.protocol.proofs.NodeLaws.{is-node, no-node}
-use Rattle.basics.proofs.FunctionsLaws.{every-at}
 
 -- ---- outside 1 to n
 

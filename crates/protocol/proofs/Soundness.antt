@@ -8,20 +8,20 @@ use mathlib.Core.Logic.{_⊎_, inl, inr}
 use mathlib.Core.Path.{_≡_, refl, sym}
 use lib.ListN.{length}
 use borrow.Author.Tests.{eqb-true, eq-eqb, ne-eqb}
+use Rattle.basics.proofs.AllOf.{AllOf, none}
+use Rattle.basics.proofs.FunctionsLaws.{update-at, update-off, row-at, row-off}
+use Rattle.basics.proofs.Tests.{not-true-is-false, clash, Choice, yes!, no!, choice, SameOrNot, equal?}
 use Rattle.height.specs.Clock.{lastTime}
 use Rattle.height.specs.Height.{zeroHeight}
 use Rattle.height.specs.declared.Height.{Height}
-use Rattle.basics.proofs.Tests.{not-true-is-false, clash, Choice, yes!, no!, choice, SameOrNot, equal?}
 use Rattle.protocol.specs.Network.{Node, Message, Network, upTo, freshHeight, fresh}
 use Rattle.protocol.specs.Step.{sends, Local, post, commit}
-use Rattle.protocol.specs.declared.Rule.{Rule}
 use Rattle.protocol.specs.declared.Rule.the-variants.{AdoptLpIfPriority, ElectSelf, ReflectRefLevel, Ignored}
 use Rattle.protocol.specs.declared.Rule.the-variants.{PropagateLargestRefLevel, NoChange, Reply, StartNewRefLevel, ChannelUp}
-use Rattle.basics.proofs.AllOf.{AllOf, none}
+use Rattle.protocol.specs.declared.Rule.{Rule}
 use Rattle.protocol.proofs.Channels.{length-post, post-all, Cleared, cleared-short, cleared-nil, cleared-all}
 use Rattle.protocol.proofs.Ranges.{HeightFits}
 use Rattle.protocol.proofs.RangesAfter.{zero-level, zero-delta}
-use Rattle.basics.proofs.FunctionsLaws.{update-at, update-off, row-at, row-off}
 
 -- ---- nodes and channels
 

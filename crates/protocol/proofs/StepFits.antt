@@ -7,30 +7,30 @@ use mathlib.Core.Logic.{_⊎_, inl, inr}
 use mathlib.Core.Path.{_≡_, refl, sym, ap, subst, _∙_}
 use lib.ListN.{length}
 use borrow.Author.Tests.{eq-eqb, ltb-true}
+use Rattle.basics.specs.Functions.{every, update}
+use Rattle.basics.proofs.AllOf.{all-head}
+use Rattle.basics.proofs.FunctionsLaws.{every-at, update-at, update-off, cell-at, update-all}
+use Rattle.basics.proofs.Tests.{clash, SameOrNot, equal?}
 use Rattle.height.specs.Clock.{lastTime}
 use Rattle.height.specs.Height.{zeroHeight}
 use Rattle.height.specs.declared.Height.{Height}
-use Rattle.basics.proofs.Tests.{clash, SameOrNot, equal?}
-use Rattle.protocol.specs.Network.{Node, Message, Network, upTo}
-use Rattle.basics.specs.Functions.{every, update}
 use Rattle.protocol.specs.Holds.{isEmpty}
+use Rattle.protocol.specs.Network.{Node, Message, Network, upTo}
 use Rattle.protocol.specs.Refusal.{tooDeep, hasRoom}
 use Rattle.protocol.specs.Rules.{downRule, receiptRule}
 use Rattle.protocol.specs.Step.{Event, up, down, receive, home, peer, heightAfter, sends, Local, carried, localUp}
 use Rattle.protocol.specs.Step.{localDown, localIgnored, localTaken, localReceipt, local, cleared, commit, step}
-use Rattle.protocol.specs.declared.Rule.{Rule}
 use Rattle.protocol.specs.declared.Rule.the-variants.{Ignored, ChannelUp}
+use Rattle.protocol.specs.declared.Rule.{Rule}
 use Rattle.protocol.proofs.Accepted.{Accepted, home-node, peer-node}
-use Rattle.basics.proofs.AllOf.{all-head}
 use Rattle.protocol.proofs.Channels.{cleared-is, cleared-nil}
 use Rattle.protocol.proofs.Invariant.{SameBut, same-all, same-forming, same-updated}
 use Rattle.protocol.proofs.Kept.{down-silent}
 use Rattle.protocol.proofs.Ranges.{HeightFits}
 use Rattle.protocol.proofs.RangesAfter.{fits-receipt, fits-down}
-use Rattle.protocol.proofs.RuleLaws.{byCases}
 use Rattle.protocol.proofs.RuleCases.{verdict}
+use Rattle.protocol.proofs.RuleLaws.{byCases}
 use Rattle.protocol.proofs.Soundness.{Ranged, MessageFits, Fits, commit-fits, sends-in, sends-down, either}
-use Rattle.basics.proofs.FunctionsLaws.{every-at, update-at, update-off, cell-at, update-all}
 
 -- l at u is within the ranges if the tests for clock, depth and room pass
 abbrev FitsIf : ℕ → Network → ℕ → Local → (ℕ → ℕ → List Message) → Type 0

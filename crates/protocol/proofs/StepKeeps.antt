@@ -6,25 +6,25 @@ use mathlib.Core.List.{List, [], _∷_}
 use mathlib.Core.Path.{_≡_, refl, sym, ap, subst}
 use lib.Dec.{eqb}
 use borrow.Author.Tests.{eq-eqb}
+use Rattle.basics.specs.Functions.{update}
+use Rattle.basics.proofs.AllOf.{none, all-head}
+use Rattle.basics.proofs.FunctionsLaws.{update-at, update-off, row-at, row-off, update-self}
+use Rattle.basics.proofs.Tests.{clash}
 use Rattle.height.specs.Height.{zeroHeight}
 use Rattle.height.specs.declared.Height.{Height}
-use Rattle.basics.proofs.Tests.{clash}
-use Rattle.basics.specs.Functions.{update}
 use Rattle.protocol.specs.Holds.{isEmpty}
 use Rattle.protocol.specs.Network.{Message, Network, upTo, fresh}
 use Rattle.protocol.specs.Rules.{downRule, receiptRule}
 use Rattle.protocol.specs.Step.{Event, up, down, receive, heightAfter, sends, Local, carried, localUp}
 use Rattle.protocol.specs.Step.{localDown, localIgnored, localTaken, localReceipt, cleared, post, commit, step}
-use Rattle.protocol.specs.declared.Rule.{Rule}
 use Rattle.protocol.specs.declared.Rule.the-variants.{Ignored, ChannelUp}
+use Rattle.protocol.specs.declared.Rule.{Rule}
 use Rattle.protocol.proofs.Accepted.{Accepted}
-use Rattle.basics.proofs.AllOf.{none, all-head}
 use Rattle.protocol.proofs.Invariant.{PostedBy, sideOf, Inv, news, LinkAfter, same-all, same-forming, same-updated}
-use Rattle.protocol.proofs.LinkLaws.{Half, Link, raised, raise, dropped, drop, drained, ignore, heard, hear}
-use Rattle.protocol.proofs.RuleLaws.{byCases, Bounded, later, not-sink-by-leader}
-use Rattle.protocol.proofs.RuleCases.{verdict, toOne, toNone, Kept, Answered, kept-still, answered, kept-down}
-use Rattle.basics.proofs.FunctionsLaws.{update-at, update-off, row-at, row-off, update-self}
 use Rattle.protocol.proofs.Kept.{informed-v, unstarted, down-silent, Changed, times, seen, mine, selfN, selfF, carried-keeps}
+use Rattle.protocol.proofs.LinkLaws.{Half, Link, raised, raise, dropped, drop, drained, ignore, heard, hear}
+use Rattle.protocol.proofs.RuleCases.{verdict, toOne, toNone, Kept, Answered, kept-still, answered, kept-down}
+use Rattle.protocol.proofs.RuleLaws.{byCases, Bounded, later, not-sink-by-leader}
 
 -- ---- the events
 

@@ -6,11 +6,11 @@ use Rattle.height.specs.declared.ReferenceLevel.{ReferenceLevel}
 use Rattle.refusal.specs.Outcome.{Answered, accepted, refusedWith}
 use Rattle.refusal.specs.Refusal.{whyOf}
 use Rattle.refusal.specs.declared.Why.{Why}
-use Rattle.protocol.specs.declared.Answer.{Answer}
 use Rattle.protocol.specs.declared.Answer.the-variants.{Done, Refused}
-use Rattle.protocol.specs.declared.Rule.{Rule}
+use Rattle.protocol.specs.declared.Answer.{Answer}
 use Rattle.protocol.specs.declared.Rule.the-variants.{ChannelUp, ElectSelf, StartNewRefLevel, NoChange, Ignored}
 use Rattle.protocol.specs.declared.Rule.the-variants.{ReflectRefLevel, PropagateLargestRefLevel, AdoptLpIfPriority, Reply}
+use Rattle.protocol.specs.declared.Rule.{Rule}
 
 -- what an accepted event did; all zero, with the dash, where it is refused
 pub record Effect : Type 0 where

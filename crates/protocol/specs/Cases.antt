@@ -5,13 +5,13 @@ use mathlib.Core.Bool.{Bool, true, false, _||_}
 use mathlib.Core.List.{List, [], _∷_, _++_, map}
 use lib.Dec.{eqb}
 use lib.IntN.{ℤ, pos, negsuc}
+use Rattle.basics.specs.Functions.{update, afterAll, sayAll}
 use Rattle.height.specs.Height.{zeroHeight}
 use Rattle.height.specs.declared.Height.{Height}
 use Rattle.protocol.specs.Answer.{Said}
-use Rattle.protocol.specs.Quiet.{quiet}
-use Rattle.basics.specs.Functions.{update, afterAll, sayAll}
 use Rattle.protocol.specs.Holds.{sound}
 use Rattle.protocol.specs.Network.{Network, fresh}
+use Rattle.protocol.specs.Quiet.{quiet}
 use Rattle.protocol.specs.Refusal.{answer, next}
 use Rattle.protocol.specs.Step.{Event, up, down, receive}
 use Rattle.protocol.specs.Times.{timely}

@@ -7,13 +7,13 @@ use lib.Dec.{eqb, leb}
 use lib.IntN.{ℤ, pos, negsuc, negℤ}
 use lib.ListN.{length}
 use lib.Signed.{leZ}
+use Rattle.basics.specs.Functions.{every, all}
 use Rattle.height.specs.Clock.{lastTime}
-use Rattle.height.specs.Order.{same}
 use Rattle.height.specs.Height.{heightKey, zeroHeight}
+use Rattle.height.specs.Order.{same}
 use Rattle.height.specs.declared.Height.{Height}
 use Rattle.height.specs.declared.LeaderPair.{LeaderPair}
 use Rattle.height.specs.declared.ReferenceLevel.{ReferenceLevel}
-use Rattle.basics.specs.Functions.{every, all}
 use Rattle.protocol.specs.Network.{Message, Network, upTo, capacity}
 
 -- originator 0 to n, bit 0 or 1; the search time is 0 exactly when the originator is 0, and then the bit is 0

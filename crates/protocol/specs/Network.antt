@@ -6,8 +6,8 @@ use mathlib.Core.List.{List, []}
 use mathlib.Core.Path.{_≡_}
 use lib.Dec.{eqb, leb}
 use lib.IntN.{pos}
-use Rattle.height.specs.declared.Height.{Height}
 use Rattle.height.specs.Height.{zeroLevel, zeroHeight}
+use Rattle.height.specs.declared.Height.{Height}
 
 -- a message: the sender's height, and its clock when it was sent (document 01: stamp)
 pub record Message : Type 0 where

@@ -7,17 +7,17 @@ use lib.Dec.{eqb, ltb}
 use lib.IntN.{ℤ}
 use lib.ListN.{length}
 use lib.Signed.{ltZ}
+use Rattle.basics.specs.Functions.{every}
 use Rattle.height.specs.Clock.{lastTime}
 use Rattle.nodeset.specs.NodeSet.{setOf}
 use Rattle.refusal.specs.Refusal.{why}
-use Rattle.protocol.specs.declared.Rule.{Rule}
-use Rattle.protocol.specs.declared.Rule.the-variants.{ChannelUp, ElectSelf, StartNewRefLevel, NoChange, Ignored}
-use Rattle.protocol.specs.declared.Rule.the-variants.{ReflectRefLevel, PropagateLargestRefLevel, AdoptLpIfPriority, Reply}
 use Rattle.protocol.specs.Answer.{Said, saidRule, saidRefused}
-use Rattle.basics.specs.Functions.{every}
 use Rattle.protocol.specs.Holds.{isEmpty, leastDelta, greatestDelta}
 use Rattle.protocol.specs.Network.{Message, Network, isNode, upTo, capacity}
 use Rattle.protocol.specs.Step.{Event, up, down, receive, home, peer, Local, local, cleared, step}
+use Rattle.protocol.specs.declared.Rule.the-variants.{ChannelUp, ElectSelf, StartNewRefLevel, NoChange, Ignored}
+use Rattle.protocol.specs.declared.Rule.the-variants.{ReflectRefLevel, PropagateLargestRefLevel, AdoptLpIfPriority, Reply}
+use Rattle.protocol.specs.declared.Rule.{Rule}
 
 -- 3: a node number outside 1 to n, or both the same
 unfoldable pub misnamed : ℕ → Event → Bool

@@ -6,15 +6,15 @@ use mathlib.Core.List.{List, [], _∷_}
 use lib.Dec.{eqb, ltb}
 use lib.IntN.{ℤ, pos}
 use lib.Signed.{ltZ}
-use Rattle.height.specs.Order.{before, same}
+use Rattle.basics.specs.Functions.{every}
 use Rattle.height.specs.Height.{levelKey, pairKey, zeroLevel}
+use Rattle.height.specs.Order.{before, same}
 use Rattle.height.specs.declared.Height.{Height}
 use Rattle.height.specs.declared.ReferenceLevel.{ReferenceLevel}
-use Rattle.protocol.specs.declared.Rule.{Rule}
+use Rattle.protocol.specs.Sink.{sink}
 use Rattle.protocol.specs.declared.Rule.the-variants.{ElectSelf, StartNewRefLevel, NoChange}
 use Rattle.protocol.specs.declared.Rule.the-variants.{ReflectRefLevel, PropagateLargestRefLevel, AdoptLpIfPriority, Reply}
-use Rattle.basics.specs.Functions.{every}
-use Rattle.protocol.specs.Sink.{sink}
+use Rattle.protocol.specs.declared.Rule.{Rule}
 
 -- ---- a down
 

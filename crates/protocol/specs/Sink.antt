@@ -3,10 +3,10 @@
 use Prim.Native.Nat.{ℕ}
 use mathlib.Core.Bool.{Bool, not, _&&_, _||_}
 use lib.Dec.{eqb}
-use Rattle.height.specs.Order.{before, same}
-use Rattle.height.specs.Height.{pairKey, heightKey}
-use Rattle.height.specs.declared.Height.{Height}
 use Rattle.basics.specs.Functions.{every}
+use Rattle.height.specs.Height.{pairKey, heightKey}
+use Rattle.height.specs.Order.{before, same}
+use Rattle.height.specs.declared.Height.{Height}
 
 -- if v is in N, its view has u's leader pair and is greater than u's height
 unfoldable pub above : (ℕ → Bool) → (ℕ → Height) → ℕ → ℕ → Bool

@@ -5,15 +5,15 @@ use mathlib.Core.Bool.{Bool, true, false, cond, _&&_, _||_}
 use mathlib.Core.List.{List, [], _∷_, _++_, tail}
 use lib.Dec.{eqb}
 use lib.IntN.{pos, sucℤ, predℤ}
+use Rattle.basics.specs.Functions.{update}
 use Rattle.height.specs.Height.{zeroHeight, selfElected}
 use Rattle.height.specs.declared.Height.{Height}
-use Rattle.protocol.specs.declared.Rule.{Rule}
-use Rattle.protocol.specs.declared.Rule.the-variants.{ChannelUp, ElectSelf, StartNewRefLevel, NoChange, Ignored}
-use Rattle.protocol.specs.declared.Rule.the-variants.{ReflectRefLevel, PropagateLargestRefLevel, AdoptLpIfPriority, Reply}
 use Rattle.protocol.specs.Clock.{ticked, receiptClock}
-use Rattle.basics.specs.Functions.{update}
 use Rattle.protocol.specs.Network.{Message, Network, upTo}
 use Rattle.protocol.specs.Rules.{downRule, receiptRule, deltas, smallest}
+use Rattle.protocol.specs.declared.Rule.the-variants.{ChannelUp, ElectSelf, StartNewRefLevel, NoChange, Ignored}
+use Rattle.protocol.specs.declared.Rule.the-variants.{ReflectRefLevel, PropagateLargestRefLevel, AdoptLpIfPriority, Reply}
+use Rattle.protocol.specs.declared.Rule.{Rule}
 
 pub data Event : Type 0 where
   up : ℕ → ℕ → Event  -- up u v: channel u to v goes up, at u

@@ -8,9 +8,9 @@ use lib.Dec.{eqb}
 use denote.Enum.Declared.{tagOf}
 use types.Run.{OneOf, miss}
 use Rattle.refusal.specs.Refusal.{why, whyOf}
-use Rattle.refusal.specs.declared.Refusal.{Refusal}
-use Rattle.refusal.specs.declared.Refusal.the-variants.{Sizes, Fault, NodeNumber, AlreadyUp, AlreadyDown, NoMessage, ClockEnd, DeltaEnd}
 use Rattle.refusal.specs.declared.Refusal.the-variants.{ChannelFull, TooShort, BadHeader, BadEnd, NotPlace, NoRoom, Malformed}
+use Rattle.refusal.specs.declared.Refusal.the-variants.{Sizes, Fault, NodeNumber, AlreadyUp, AlreadyDown, NoMessage, ClockEnd, DeltaEnd}
+use Rattle.refusal.specs.declared.Refusal.{Refusal}
 use Rattle.refusal.specs.declared.Why.{Why}
 use Rattle.refusal.proofs.Refusal as reasons
 

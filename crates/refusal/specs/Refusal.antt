@@ -1,9 +1,9 @@
 -- The returned numbers (document 01): each reason's number and, for 2, the pair at fault. The only place that gives a reason its number.
 -- `whyOf` is injective (proofs/RefusalLaws.antt), so a promise about the numbers is one about the reason.
 use Prim.Native.Nat.{ℕ}
-use Rattle.refusal.specs.declared.Refusal.{Refusal}
-use Rattle.refusal.specs.declared.Refusal.the-variants.{Sizes, Fault, NodeNumber, AlreadyUp, AlreadyDown, NoMessage, ClockEnd, DeltaEnd}
 use Rattle.refusal.specs.declared.Refusal.the-variants.{ChannelFull, TooShort, BadHeader, BadEnd, NotPlace, NoRoom, Malformed}
+use Rattle.refusal.specs.declared.Refusal.the-variants.{Sizes, Fault, NodeNumber, AlreadyUp, AlreadyDown, NoMessage, ClockEnd, DeltaEnd}
+use Rattle.refusal.specs.declared.Refusal.{Refusal}
 use Rattle.refusal.specs.declared.Why.{Why}
 
 -- a number with a pair; 0 0 0: not refused

@@ -4,8 +4,8 @@ use Prim.Native.Nat.{ℕ}
 use mathlib.Core.List.{List, [], _∷_, _++_}
 use mathlib.Core.Path.{_≡_}
 use Rattle.calls.specs.Run.{Call, event, save, restore, startOfRun, Fair, fairEvent, fairSave, fairRefused, fairNil, fairCons}
-use Rattle.protocol.specs.Step.{Event}
 use Rattle.image_snapshot.specs.Restore.{restoreOn}
+use Rattle.protocol.specs.Step.{Event}
 use Rattle.runs.specs.OnTables.{tablesAfterAll, onTables, freshTables, after, Allowed}
 use Rattle.runs.proofs.Lists.{fair-append}
 use Rattle.runs.proofs.TablesRun.{now-after}

@@ -6,26 +6,26 @@ use mathlib.Core.List.{List, [], _∷_, _++_}
 use mathlib.Core.Logic.{_⊎_, inl, inr}
 use mathlib.Core.Path.{_≡_, sym, ap, _∙_}
 use lib.ListN.{length}
-use Rattle.refusal.specs.declared.Why.{Why}
-use Rattle.refusal.specs.Refusal.{why}
-use Rattle.refusal.specs.Outcome.{outcome, Outcome}
 use Rattle.basics.specs.Functions.{afterAll, sayAll}
-use Rattle.election.specs.RunOn.{EventCall, tablesLeft, saidOn}
-use Rattle.lent.specs.Fresh.{freshOn}
-use Rattle.lent.proofs.CheckLaws.{sized-is}
-use Rattle.protocol.specs.Network.{Node, Network, upTo, own}
+use Rattle.basics.proofs.Tests.{Choice, yes!, no!, choice}
 use Rattle.calls.specs.Component.{Quiescent, OneLeader}
 use Rattle.calls.specs.History.{History, upIn, sentSince, receivedSince, waiting}
 use Rattle.calls.specs.Run.{Call, save, restore, Saved, RunState, startOfRun, Earlier, never, savedAt, lastSave, Fair, fairSaved, fairRefused}
 use Rattle.calls.proofs.LastSave.{NoneWrote, Wrote, remembered}
 use Rattle.calls.proofs.Runs.{stateOf, good-promise}
 use Rattle.calls.proofs.SavesLaws.{restore-history}
-use Rattle.basics.proofs.Tests.{Choice, yes!, no!, choice}
+use Rattle.election.specs.RunOn.{EventCall, tablesLeft, saidOn}
 use Rattle.image_snapshot.specs.Restore.{restoreOn}
 use Rattle.image_snapshot.specs.Save.{saveOn}
+use Rattle.lent.specs.Fresh.{freshOn}
+use Rattle.lent.proofs.CheckLaws.{sized-is}
+use Rattle.protocol.specs.Network.{Node, Network, upTo, own}
+use Rattle.refusal.specs.Outcome.{outcome, Outcome}
+use Rattle.refusal.specs.Refusal.{why}
+use Rattle.refusal.specs.declared.Why.{Why}
 use Rattle.tables.specs.Load.{load}
 use Rattle.tables.specs.Tables.{Tables, sized}
-use Rattle.runs.specs.OnTables.{tablesAfterAll, putOut, onTables, freshTables, then, after, Allowed}
+use Rattle.runs.specs.OnTables.{tablesAfterAll, putOut, onTables, freshTables, after, Allowed}
 use Rattle.runs.proofs.Lists.{perform-append, fair-first, fair-rest, fair-head}
 use Rattle.runs.proofs.Simulation.{last-from, restore-is, from-fresh}
 use Rattle.runs.proofs.TablesRun.{meantAfter, now-after, now-behind, on-tables}

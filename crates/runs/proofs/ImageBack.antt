@@ -8,23 +8,23 @@ use mathlib.Core.Path.{_≡_, refl, ap, _∙_}
 use borrow.Author.Tests.{eqb-true}
 use lib.Dec.{eqb, leb}
 use lib.ListN.{length, take, drop}
-use Rattle.refusal.specs.Refusal.{why}
-use Rattle.refusal.specs.Outcome.{outcome, putFront}
-use Rattle.image.specs.Image.{image}
-use Rattle.lent.proofs.CheckLaws.{is-sized}
-use Rattle.protocol.specs.Holds.{sound}
-use Rattle.protocol.specs.Network.{Network, restrict}
+use Rattle.basics.proofs.Tests.{Choice, yes!, no!, choice}
 use Rattle.calls.specs.Run.{RunState}
 use Rattle.calls.proofs.Runs.{Sane}
-use Rattle.protocol.proofs.SoundStep.{sound-fits}
-use Rattle.basics.proofs.Tests.{Choice, yes!, no!, choice}
+use Rattle.image.specs.Image.{image}
 use Rattle.image_snapshot.specs.Restore.{restoreOn}
 use Rattle.image_snapshot.proofs.RefusedLaws.{restore-kept}
 use Rattle.image_snapshot.proofs.RestoreSaved.{restore-image}
+use Rattle.lent.proofs.CheckLaws.{is-sized}
+use Rattle.protocol.specs.Holds.{sound}
+use Rattle.protocol.specs.Network.{Network, restrict}
+use Rattle.protocol.proofs.SoundStep.{sound-fits}
+use Rattle.refusal.specs.Outcome.{outcome, putFront}
+use Rattle.refusal.specs.Refusal.{why}
 use Rattle.tables.specs.Load.{tablesOf}
 use Rattle.tables.proofs.Back.{storable, load-back, tables-sized}
-use Rattle.runs.specs.inner.ByMeaning.{saveMeant, restoreMeant}
 use Rattle.runs.specs.OnTables.{putOut, writing}
+use Rattle.runs.specs.inner.ByMeaning.{saveMeant, restoreMeant}
 
 -- b is the image of the network p of n nodes
 abbrev pub ImageOf : ℕ → Network → List ℕ → Type 0

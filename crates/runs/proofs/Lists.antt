@@ -4,8 +4,8 @@ use mathlib.Core.Bool.{Bool, true, false}
 use mathlib.Core.List.{List, [], _∷_, _++_}
 use mathlib.Core.Path.{_≡_, refl}
 use Rattle.basics.specs.Functions.{all}
-use Rattle.calls.specs.Run.{Call, event, save, restore, Calls, RunState, act, perform, Fair, fairEvent, fairSave, AllFair, fairNil, fairCons}
 use Rattle.basics.proofs.Tests.{clash}
+use Rattle.calls.specs.Run.{Call, event, save, restore, Calls, RunState, act, perform, Fair, fairEvent, fairSave, AllFair, fairNil, fairCons}
 
 -- no restore
 abbrev pub isPlain : Call → Bool

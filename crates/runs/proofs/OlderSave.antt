@@ -6,37 +6,37 @@ use mathlib.Core.Bool.{true}
 use mathlib.Core.List.{List, [], _∷_, _++_, map}
 use mathlib.Core.Path.{_≡_, refl}
 use lib.ListN.{set, replicate}
-use Rattle.refusal.specs.Refusal.{why}
-use Rattle.refusal.specs.Outcome.{accepted, outcome, putFront, refusedWith}
+use Rattle.basics.specs.Functions.{every, all, update}
 use Rattle.bits.specs.Bits.{bits, number, unpacked, packed, field, spread, gathered}
+use Rattle.calls.specs.Component.{Quiescent, OneLeader}
+use Rattle.calls.specs.History.{Entry, entry, upIn, waiting}
+use Rattle.calls.specs.Run.{Call, event, save, restore, Saved, startOfRun}
 use Rattle.election.specs.StepOn.{stepAt, stepChecked, stepOn}
 use Rattle.height.specs.Height.{zeroLevel, levelKey, pairKey, heightKey}
 use Rattle.height.specs.Order.{before, same}
 use Rattle.height.specs.Words.{deltaOf, deltaWord, heightWords, heightAt}
 use Rattle.image.specs.Image.{headerBits, nodeBits, messageBits, channelBits, channelsBits, networkBits, padded, bytesOf, imageOf, image}
-use Rattle.image.specs.Places.{fieldIn, nodePlace, heightFrom, messagesOf, channelFrom, walked, channelNext}
 use Rattle.image.specs.Places.{channelsNext, channelsPlace, channelsFromPlace, channelPlace, imageEnd, recordsIn, tablesIn}
+use Rattle.image.specs.Places.{fieldIn, nodePlace, heightFrom, messagesOf, channelFrom, walked, channelNext}
 use Rattle.image.specs.Widths.{recordBits, extendedOf, recordOf, heightWidth, messageWidth, nodeWidth}
-use Rattle.lent.specs.Check.{pairAt, faultInRow, faultFrom, firstFault, checkOn}
-use Rattle.nodeset.specs.NodeSet.{member, setOf, within}
-use Rattle.pairs.specs.Pair.{ownSound, viewSound, channelSound, pairSound}
-use Rattle.protocol.specs.Answer.{carriedOut, saidRefused}
-use Rattle.protocol.specs.Network.{Node, own}
-use Rattle.calls.specs.Component.{Quiescent, OneLeader}
-use Rattle.protocol.specs.Quiet.{pairQuiet, nodeQuiet, quiet}
-use Rattle.basics.specs.Functions.{every, all, update}
-use Rattle.protocol.specs.Holds.{levelHolds, deltaHolds, leaderPairHolds, heightHolds, messageHolds, notInBoth, setsHold}
-use Rattle.calls.specs.History.{Entry, entry, upIn, waiting}
-use Rattle.protocol.specs.Refusal.{misnamed, late, hasRoom, crowded, returned, accepts, answer, next}
-use Rattle.protocol.specs.Rules.{absent, downRule, larger, largest, deltas, ofLevel, oneLevelRule, equalPairsRule, receiptRule}
-use Rattle.calls.specs.Run.{Call, event, save, restore, Saved, startOfRun}
-use Rattle.protocol.specs.Sink.{above, sink}
-use Rattle.protocol.specs.Step.{up, down, receive, carried, localUp, localDown, localIgnored, localTaken, post, commit, step}
 use Rattle.image_reading.specs.Examine.{afterWalk, examined}
 use Rattle.image_reading.specs.Header.{headerHolds, headerOf}
 use Rattle.image_reading.specs.Walk.{channelStep, onward, steps, channelsFromWalk, channelsWalk, walk, endsAt}
 use Rattle.image_snapshot.specs.Restore.{restoreExamined, restoreOf, restoreHeaded, restoreOn}
 use Rattle.image_snapshot.specs.Save.{saveChecked, saveOn}
+use Rattle.lent.specs.Check.{pairAt, faultInRow, faultFrom, firstFault, checkOn}
+use Rattle.nodeset.specs.NodeSet.{member, setOf, within}
+use Rattle.pairs.specs.Pair.{ownSound, viewSound, channelSound, pairSound}
+use Rattle.protocol.specs.Answer.{carriedOut, saidRefused}
+use Rattle.protocol.specs.Holds.{levelHolds, deltaHolds, leaderPairHolds, heightHolds, messageHolds, notInBoth, setsHold}
+use Rattle.protocol.specs.Network.{Node, own}
+use Rattle.protocol.specs.Quiet.{pairQuiet, nodeQuiet, quiet}
+use Rattle.protocol.specs.Refusal.{misnamed, late, hasRoom, crowded, returned, accepts, answer, next}
+use Rattle.protocol.specs.Rules.{absent, downRule, larger, largest, deltas, ofLevel, oneLevelRule, equalPairsRule, receiptRule}
+use Rattle.protocol.specs.Sink.{above, sink}
+use Rattle.protocol.specs.Step.{up, down, receive, carried, localUp, localDown, localIgnored, localTaken, post, commit, step}
+use Rattle.refusal.specs.Outcome.{accepted, outcome, putFront, refusedWith}
+use Rattle.refusal.specs.Refusal.{why}
 use Rattle.tables.specs.Cell.{messageAt, messagesAt, queue, allZero, messageWords}
 use Rattle.tables.specs.Load.{load, tablesOf}
 use Rattle.tables.specs.Records.{recordsOf, rowWords, slotWords, cellWords, tablesFrom}

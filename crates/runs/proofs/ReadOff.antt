@@ -4,14 +4,14 @@ use Prim.Native.Nat.{ℕ, _≤_}
 use mathlib.Core.Bool.{true}
 use mathlib.Core.List.{List}
 use mathlib.Core.Path.{_≡_, sym, subst, fun-ext}
-use Rattle.protocol.specs.Network.{Node, Network, upTo, own}
 use Rattle.calls.specs.Component.{Quiescent, OneLeader}
-use Rattle.protocol.specs.Quiet.{quiet}
 use Rattle.calls.specs.History.{upIn, waiting, Told}
 use Rattle.calls.specs.Run.{Call}
 use Rattle.calls.proofs.Leaders.{quiet-quiescent}
 use Rattle.calls.proofs.Runs.{stateOf}
 use Rattle.calls.proofs.Theorems.{Steady, good-steady}
+use Rattle.protocol.specs.Network.{Node, Network, upTo, own}
+use Rattle.protocol.specs.Quiet.{quiet}
 use Rattle.runs.specs.OnTables.{Allowed}
 use Rattle.runs.proofs.Demand3.{networkAt, historyAfter, Demand3, demand-3}
 use Rattle.runs.proofs.Simulation.{from-fresh}

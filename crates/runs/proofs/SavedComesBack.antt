@@ -3,20 +3,20 @@
 use Prim.Native.Nat.{ℕ, _≤_}
 use mathlib.Core.List.{List, [], _∷_, _++_}
 use mathlib.Core.Path.{_≡_, refl, sym, ap, subst, _∙_}
-use Rattle.refusal.specs.declared.Why.{Why}
-use Rattle.refusal.specs.Refusal.{why}
-use Rattle.refusal.specs.Outcome.{outcome, Outcome}
-use Rattle.protocol.specs.Network.{Network, fresh}
 use Rattle.calls.specs.Run.{Call, save, restore, Saved, RunState, startOfRun, savedAt, lastSave, act, perform}
 use Rattle.calls.specs.Run.{Fair, fairEvent, fairSave, fairSaved, fairRefused, AllFair, fairNil, fairCons}
 use Rattle.calls.proofs.LastSave.{stays-last}
 use Rattle.calls.proofs.SavesLaws.{save-last, not-forgotten}
 use Rattle.image_snapshot.specs.Restore.{restoreOn}
 use Rattle.image_snapshot.specs.Save.{saveOn}
+use Rattle.protocol.specs.Network.{Network, fresh}
+use Rattle.refusal.specs.Outcome.{outcome, Outcome}
+use Rattle.refusal.specs.Refusal.{why}
+use Rattle.refusal.specs.declared.Why.{Why}
 use Rattle.tables.specs.Load.{tablesOf}
 use Rattle.tables.specs.Tables.{Tables}
-use Rattle.runs.specs.inner.ByMeaning.{byMeaning}
 use Rattle.runs.specs.OnTables.{putOut, onTables, freshTables, then, after, Allowed}
+use Rattle.runs.specs.inner.ByMeaning.{byMeaning}
 use Rattle.runs.proofs.Demand3.{tablesAt, put-back}
 use Rattle.runs.proofs.ImageBack.{SaneRun}
 use Rattle.runs.proofs.Lists.{perform-append, fair-first, fair-rest, fair-append, fair-head, fair-tail}

@@ -7,33 +7,33 @@ use mathlib.Core.Logic.{inl, inr}
 use mathlib.Core.Path.{_≡_, refl, sym, ap, subst, _∙_}
 use borrow.Author.Tests.{eq-eqb, ne-eqb}
 use lib.Dec.{eqb}
-use Rattle.protocol.specs.Answer.{Said}
-use Rattle.refusal.specs.Refusal.{why}
-use Rattle.refusal.specs.Outcome.{outcome, Outcome, Answered}
+use Rattle.basics.proofs.Tests.{Choice, yes!, no!, choice, SameOrNot, equal?}
+use Rattle.calls.specs.History.{advance}
+use Rattle.calls.specs.Run.{Call, event, save, restore, Saved, RunState, startOfRun, sameBytes, Earlier, never, savedAt, lastSave}
+use Rattle.calls.specs.Run.{steppedTo, savedTo, act, perform, Fair, fairEvent, fairSave, fairSaved, fairRefused, AllFair}
+use Rattle.calls.proofs.Runs.{stateOf, act-sane, start-sane, Imaged}
+use Rattle.calls.proofs.SavesLaws.{found}
 use Rattle.election.specs.RunOn.{saidTo, called}
 use Rattle.election.specs.StepOn.{stepOn}
 use Rattle.election.proofs.RunLaws.{not-sized, one-call}
-use Rattle.lent.specs.Check.{checkOn}
-use Rattle.lent.proofs.CheckLaws.{check-sizes}
-use Rattle.lent.proofs.SoundNetworks.{sound-check}
-use Rattle.calls.specs.History.{advance}
-use Rattle.protocol.specs.Network.{Network, fresh}
-use Rattle.calls.specs.Run.{Call, event, save, restore, Saved, RunState, startOfRun, sameBytes, Earlier, never, savedAt, lastSave}
-use Rattle.calls.specs.Run.{steppedTo, savedTo, act, perform, Fair, fairEvent, fairSave, fairSaved, fairRefused, AllFair}
-use Rattle.protocol.specs.Step.{Event}
-use Rattle.protocol.proofs.Holding.{sound-holds}
-use Rattle.protocol.proofs.Restrict.{restrict-is}
-use Rattle.calls.proofs.Runs.{stateOf, act-sane, start-sane, Imaged}
-use Rattle.calls.proofs.SavesLaws.{found}
-use Rattle.basics.proofs.Tests.{Choice, yes!, no!, choice, SameOrNot, equal?}
 use Rattle.image_snapshot.specs.Restore.{restoreOn}
 use Rattle.image_snapshot.specs.Save.{saveChecked, saveOn}
 use Rattle.image_snapshot.proofs.RefusedLaws.{restore-kept}
+use Rattle.lent.specs.Check.{checkOn}
+use Rattle.lent.proofs.CheckLaws.{check-sizes}
+use Rattle.lent.proofs.SoundNetworks.{sound-check}
+use Rattle.protocol.specs.Answer.{Said}
+use Rattle.protocol.specs.Network.{Network, fresh}
+use Rattle.protocol.specs.Step.{Event}
+use Rattle.protocol.proofs.Holding.{sound-holds}
+use Rattle.protocol.proofs.Restrict.{restrict-is}
+use Rattle.refusal.specs.Outcome.{outcome, Outcome, Answered}
+use Rattle.refusal.specs.Refusal.{why}
 use Rattle.tables.specs.Load.{load, tablesOf}
 use Rattle.tables.specs.Tables.{Tables}
 use Rattle.tables.proofs.Back.{storable, load-back}
-use Rattle.runs.specs.inner.ByMeaning.{saveMeant, restoreMeant, byMeaning}
 use Rattle.runs.specs.OnTables.{writing, onTables, then, after, Allowed}
+use Rattle.runs.specs.inner.ByMeaning.{saveMeant, restoreMeant, byMeaning}
 use Rattle.runs.proofs.ImageBack.{ImageOf, writes, reads, kept, restore-of, SaneRun}
 use Rattle.runs.proofs.Lists.{fair-head, fair-tail}
 

@@ -3,14 +3,14 @@
 use Prim.Native.Nat.{ℕ, _≤_}
 use mathlib.Core.List.{List, [], _∷_, _++_}
 use mathlib.Core.Path.{_≡_, refl, sym, ap, ap₂, _∙_}
-use Rattle.protocol.specs.Answer.{Said}
-use Rattle.refusal.specs.Outcome.{Outcome}
-use Rattle.protocol.specs.Network.{Network, fresh}
 use Rattle.calls.specs.Run.{Call, event, save, restore, RunState, startOfRun, act, perform, AllFair}
+use Rattle.protocol.specs.Answer.{Said}
+use Rattle.protocol.specs.Network.{Network, fresh}
+use Rattle.refusal.specs.Outcome.{Outcome}
 use Rattle.tables.specs.Load.{load, tablesOf}
 use Rattle.tables.specs.Tables.{Tables}
-use Rattle.runs.specs.inner.ByMeaning.{byMeaning, replyTo, repliesTo}
 use Rattle.runs.specs.OnTables.{Reply, toEvent, toSave, reply, tablesAfter, tablesAfterAll, replies, onTables, freshTables, then, after, Allowed}
+use Rattle.runs.specs.inner.ByMeaning.{byMeaning, replyTo, repliesTo}
 use Rattle.runs.proofs.ImageBack.{SaneRun}
 use Rattle.runs.proofs.Lists.{perform-append, fair-head}
 use Rattle.runs.proofs.Simulation.{onto, own-back, event-is, save-is, onto-call, fair-from, call-sane, onward, fresh-sane, from-fresh}

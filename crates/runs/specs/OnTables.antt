@@ -3,15 +3,15 @@
 use Prim.Native.Nat.{ℕ}
 use mathlib.Core.List.{List}
 use lib.ListN.{take}
-use Rattle.refusal.specs.declared.Why.{Why}
-use Rattle.refusal.specs.Outcome.{Answered, Outcome, outcome}
 use Rattle.basics.specs.Functions.{afterAll, sayAll}
-use Rattle.election.specs.StepOn.{stepOn}
-use Rattle.protocol.specs.Answer.{Said}
-use Rattle.protocol.specs.Network.{fresh}
 use Rattle.calls.specs.Run.{Call, event, save, restore, Calls, RunState, startOfRun, act, perform, AllFair}
+use Rattle.election.specs.StepOn.{stepOn}
 use Rattle.image_snapshot.specs.Restore.{restoreOn}
 use Rattle.image_snapshot.specs.Save.{saveOn}
+use Rattle.protocol.specs.Answer.{Said}
+use Rattle.protocol.specs.Network.{fresh}
+use Rattle.refusal.specs.Outcome.{Answered, Outcome, outcome}
+use Rattle.refusal.specs.declared.Why.{Why}
 use Rattle.tables.specs.Load.{tablesOf}
 use Rattle.tables.specs.Tables.{Tables}
 

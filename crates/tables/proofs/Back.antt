@@ -11,16 +11,16 @@ use lib.Dec.{eqb, leb}
 use lib.ListN.{getD, length, take, drop, length-map}
 use lib.Seq.{getD-take, getD-drop, getD-append-add}
 use borrow.Author.Tests.{ne-eqb, leb-false, le-leb}
-use Rattle.height.specs.Words.{heightAt, heightWords}
+use Rattle.basics.proofs.AllOf.{AllOf, none, more, all-weaker}
 use Rattle.basics.proofs.Tests.{clash, Choice, yes!, no!, choice, equal?}
+use Rattle.height.specs.Words.{heightAt, heightWords}
 use Rattle.height.proofs.WordsLaws.{same-words, words-height}
 use Rattle.nodeset.specs.NodeSet.{member, setOf}
 use Rattle.nodeset.proofs.Members.{member-setOf, setOf-lt, none-above, member-zero}
 use Rattle.protocol.specs.Network.{Node, Message, Network, isNode, fresh, atNodes, atPairs, restrict}
-use Rattle.basics.proofs.AllOf.{AllOf, none, more, all-weaker}
+use Rattle.protocol.proofs.NodeLaws.{is-node}
 use Rattle.protocol.proofs.Restrict.{restrict-is, same-nodes, same-pairs}
 use Rattle.protocol.proofs.Soundness.{Fits, MessageFits}
-use Rattle.protocol.proofs.NodeLaws.{is-node}
 use Rattle.tables.specs.Cell.{messageAt, messagesAt, queue, messageWords}
 use Rattle.tables.specs.Load.{load, tablesOf, clockAt, neighborsAt, formingAt, heightsAt, messagesOn}
 use Rattle.tables.specs.Records.{recordsOf, rowWords, slotWords, cellWords}
@@ -28,8 +28,8 @@ use Rattle.tables.specs.Row.{clockIn, neighborsIn, formingIn, heightIn}
 use Rattle.tables.specs.Rows.{rowAt, rows}
 use Rattle.tables.specs.Tables.{Sized, width, nodeOf, channelOf}
 use Rattle.tables.proofs.CellLaws.{messages-moved}
-use Rattle.tables.proofs.RowLaws.{height-past}
 use Rattle.tables.proofs.RecordsLaws.{words-length, message-length, network-shaped, length-row, made-sized, node-from, channel-from}
+use Rattle.tables.proofs.RowLaws.{height-past}
 use Rattle.tables.proofs.RowsMore.{rows-at}
 use Rattle.tables.proofs.Wordy.{Wordy, fits-wordy, zero-wordy}
 

@@ -8,16 +8,16 @@ use mathlib.Core.Logic.{_⊎_, inl, inr}
 use mathlib.Core.Path.{_≡_, refl, sym, ap, _∙_}
 use lib.ListN.{getD, length, take, drop, replicate, set, length-set, length-append, length-drop, length-map, length-replicate, getD-replicate, List·getD-append}
 use lib.Seq.{drop-cons, take-all, getD-set-same, getD-set-other, getD-drop, getD-append-add}
+use Rattle.basics.proofs.Tests.{equal?}
 use Rattle.height.specs.Words.{heightAt, heightWords, storedAt, deltaWord}
 use Rattle.height.specs.declared.Height.{Height}
 use Rattle.height.proofs.WordsLaws.{same-words, load-stored, stored-before, stored-past, stored-length, word-signed, natAbs-neg, sets-in}
 use Rattle.protocol.specs.Network.{Message}
-use Rattle.basics.proofs.Tests.{equal?}
 use Rattle.tables.specs.Cell.{count, slot, messageAt, messagesAt, queue, appended, taken, emptied, messageWords}
-use Rattle.tables.specs.inner.Fit.{CellFits}
 use Rattle.tables.specs.Records.{slotWords, cellWords}
 use Rattle.tables.specs.Rows.{part}
 use Rattle.tables.specs.Tables.{cellWidth}
+use Rattle.tables.specs.inner.Fit.{CellFits}
 use Rattle.tables.proofs.WordRuns.{run, part-run, part-add, run-zero}
 use Rattle.tables.proofs.Wordy.{Wordy, word-lt}
 

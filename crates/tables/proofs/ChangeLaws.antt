@@ -3,11 +3,11 @@ use Prim.Native.Nat.{ℕ}
 use mathlib.Core.Bool.{false}
 use mathlib.Core.Logic.{_⊎_, inl, inr}
 use mathlib.Core.Path.{_≡_, fun-ext}
-use Rattle.protocol.specs.Network.{Node, isNode, atNodes, atPairs}
 use Rattle.basics.specs.Functions.{update}
-use Rattle.basics.proofs.Tests.{Choice, yes!, no!, choice, equal?}
-use Rattle.protocol.proofs.NodeLaws.{is-node, node-passes}
 use Rattle.basics.proofs.FunctionsLaws.{update-at, update-off}
+use Rattle.basics.proofs.Tests.{Choice, yes!, no!, choice, equal?}
+use Rattle.protocol.specs.Network.{Node, isNode, atNodes, atPairs}
+use Rattle.protocol.proofs.NodeLaws.{is-node, node-passes}
 
 -- ---- functions of nodes that differ at u alone
 

@@ -8,12 +8,12 @@ use mathlib.Core.Logic.{inl, inr}
 use mathlib.Core.Path.{_≡_, refl, sym, ap, ap₂, _∙_}
 use lib.ListN.{length, take, drop, getD, replicate, length-append, length-replicate}
 use lib.Seq.{take-at, drop-at}
+use Rattle.basics.proofs.AllOf.{AllOf, none, more}
+use Rattle.basics.proofs.Tests.{SameOrNot, equal?}
 use Rattle.height.specs.Words.{heightWords}
 use Rattle.height.specs.declared.Height.{Height}
 use Rattle.nodeset.specs.NodeSet.{setOf}
 use Rattle.protocol.specs.Network.{Node, Message, Network}
-use Rattle.basics.proofs.AllOf.{AllOf, none, more}
-use Rattle.basics.proofs.Tests.{SameOrNot, equal?}
 use Rattle.tables.specs.Cell.{messageWords}
 use Rattle.tables.specs.Records.{Records, recordsOf, rowWords, slotWords, cellWords, tablesFrom}
 use Rattle.tables.specs.Rows.{rows, rowAt}

@@ -7,6 +7,9 @@ use mathlib.Core.Logic.{_⊎_, inl, inr}
 use mathlib.Core.Path.{_≡_, refl, sym, ap, _∙_, fun-ext}
 use lib.ListN.{getD, length, take, drop, set, length-drop, length-set, List·getD-eq-default}
 use lib.Seq.{drop-cons, drop-drop, getD-set-same, getD-set-other}
+use Rattle.basics.specs.Functions.{update}
+use Rattle.basics.proofs.FunctionsLaws.{update-at, update-off}
+use Rattle.basics.proofs.Tests.{equal?}
 use Rattle.height.specs.Height.{zeroHeight}
 use Rattle.height.specs.Words.{heightAt, heightWords, storedAt, deltaOf}
 use Rattle.height.specs.declared.Height.{Height}
@@ -14,13 +17,10 @@ use Rattle.height.proofs.WordsLaws.{same-words, load-stored, load-before, load-
 use Rattle.nodeset.specs.NodeSet.{member, setOf}
 use Rattle.nodeset.proofs.Members.{setOf-member}
 use Rattle.protocol.specs.Network.{Node}
-use Rattle.basics.specs.Functions.{update}
-use Rattle.basics.proofs.Tests.{equal?}
-use Rattle.basics.proofs.FunctionsLaws.{update-at, update-off}
-use Rattle.tables.specs.inner.Fit.{RowFits}
 use Rattle.tables.specs.Row.{clockIn, neighborsIn, formingIn, heightIn, putHeight, withHead}
 use Rattle.tables.specs.Rows.{rowAt, rows}
 use Rattle.tables.specs.Tables.{width}
+use Rattle.tables.specs.inner.Fit.{RowFits}
 use Rattle.tables.proofs.WordRuns.{part-run, rows-are, run-words}
 use Rattle.tables.proofs.Wordy.{Wordy, word-lt}
 

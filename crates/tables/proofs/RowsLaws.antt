@@ -8,11 +8,11 @@ use native.Mathlib.Omega.{arith}
 use native.Mathlib.Decide.{decLt}
 use lib.ListN.{length, getD, take, drop, length-append, length-take, length-drop, take-append-drop, List·getD-append}
 use lib.Seq.{length-take-le, take-all, take-at, drop-at, getD-take, getD-drop, getD-append-add, ext-getD}
-use Rattle.height.specs.declared.Height.{Height}
 use Rattle.height.specs.Words.{heightAt, storedAt}
+use Rattle.height.specs.declared.Height.{Height}
 use Rattle.protocol.specs.Network.{Node}
-use Rattle.tables.specs.Rows.{part, putPart, rowAt, putRow}
 use Rattle.tables.specs.Row.{heightIn, putHeight}
+use Rattle.tables.specs.Rows.{part, putPart, rowAt, putRow}
 use Rattle.tables.specs.Tables.{width, cellWidth, nodeOf, putNode, pairOf, channelOf, putChannel}
 
 -- ---- parts

@@ -12,12 +12,12 @@ use Rattle.nodeset.proofs.Members.{member-range}
 use Rattle.protocol.specs.Network.{Node, Message}
 use Rattle.protocol.proofs.NodeLaws.{node-passes}
 use Rattle.tables.specs.Cell.{queue, messageWords}
-use Rattle.tables.specs.inner.Fit.{TablesFit}
 use Rattle.tables.specs.Load.{load, tablesOf}
 use Rattle.tables.specs.Records.{recordsOf, rowWords, cellWords, tablesFrom}
 use Rattle.tables.specs.Row.{clockIn, neighborsIn, formingIn, heightIn}
 use Rattle.tables.specs.Rows.{rowAt, rows}
 use Rattle.tables.specs.Tables.{Tables, width, cellWidth, nodeOf, channelOf, pairOf}
+use Rattle.tables.specs.inner.Fit.{TablesFit}
 use Rattle.tables.proofs.CellLaws.{cell-back}
 use Rattle.tables.proofs.RowLaws.{row-back}
 use Rattle.tables.proofs.RowsLaws.{row-length}

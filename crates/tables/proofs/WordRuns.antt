@@ -10,12 +10,12 @@ use lib.Dec.{eqb}
 use borrow.Author.Tests.{eqb-true}
 use lib.ListN.{getD, length, take, drop, replicate, length-drop, take-append-drop}
 use lib.Seq.{drop-cons, drop-drop, take-add, getD-take, getD-drop}
-use Rattle.tables.proofs.RowsLaws.{row-fits, part-length}
 use Rattle.basics.proofs.Tests.{and-left, and-right}
 use Rattle.height.specs.Words.{heightAt, heightWords}
 use Rattle.height.proofs.WordsLaws.{word-signed, natAbs-neg}
 use Rattle.tables.specs.Cell.{allZero}
 use Rattle.tables.specs.Rows.{part, rowAt, rows}
+use Rattle.tables.proofs.RowsLaws.{row-fits, part-length}
 
 -- k words from index i on
 unfoldable pub run : ℕ → List ℕ → ℕ → List ℕ

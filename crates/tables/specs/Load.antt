@@ -6,10 +6,10 @@ use mathlib.Core.List.{List}
 use Rattle.height.specs.declared.Height.{Height}
 use Rattle.nodeset.specs.NodeSet.{member}
 use Rattle.protocol.specs.Network.{Message, Network, fresh, atNodes, atPairs}
-use Rattle.tables.specs.Tables.{Tables, nodeOf, channelOf}
-use Rattle.tables.specs.Row.{clockIn, neighborsIn, formingIn, heightIn}
 use Rattle.tables.specs.Cell.{queue}
 use Rattle.tables.specs.Records.{recordsOf, tablesFrom}
+use Rattle.tables.specs.Row.{clockIn, neighborsIn, formingIn, heightIn}
+use Rattle.tables.specs.Tables.{Tables, nodeOf, channelOf}
 
 abbrev pub clockAt : ℕ → Tables → ℕ → ℕ
 clockAt n t u = clockIn (nodeOf n u (t .nodes))

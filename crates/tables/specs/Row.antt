@@ -28,4 +28,3 @@ putHeight row (suc k) h = storedAt row (rowHead + k * heightSize) h
 -- the row with this clock and these sets
 unfoldable pub withHead : List ℕ → ℕ → ℕ → ℕ → List ℕ
 withHead row clock N F = set (set (set row 0 clock) 1 N) 2 F
-

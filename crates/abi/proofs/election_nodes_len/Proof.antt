@@ -1,8 +1,8 @@
 -- `abi::election_nodes_len` meets its contract: with n at most 16 the product fits.
 use native.Mathlib.Omega.{arith}
 use mathlib.Core.Path.{sym, _∙_}
-use Rattle.abi.specs.Sizes.{nodesLength}
 use Rattle.tables.proofs.Sizes.{rows-small}
+use Rattle.abi.specs.Sizes.{nodesLength}
 use Rattle.abi.proofs.SizeLaws.{size-of}
 use borrow.Author.Needs.{needs}
 use Rattle.abi.proofs.election_nodes_len.Statement.{statement}

@@ -3,13 +3,13 @@
 use Prim.Native.Nat.{ℕ, suc}
 use mathlib.Core.List.{List, [], _∷_, _++_}
 use Rattle.basics.specs.Functions.{afterAll}
-use Rattle.protocol.specs.Answer.{saidRefused}
 use Rattle.commands.specs.Commands.{SaidCommand, commandOf}
 use Rattle.election.specs.StepOn.{stepOn}
+use Rattle.protocol.specs.Answer.{saidRefused}
 use Rattle.tables.specs.Load.{clockAt, heightsAt}
 use Rattle.tables.specs.Rows.{rows}
 use Rattle.tables.specs.Tables.{Tables}
-use Rattle.bench_run.specs.Listing.{eventLine, saidLine, byEvent, stationLine}
+use Rattle.bench_run.specs.Listing.{saidLine, byEvent, stationLine}
 
 unfoldable pub commandLineOn : ℕ → Tables → ℕ → SaidCommand → List ℕ
 commandLineOn n t k c = byEvent (λ e. saidLine k (stepOn n e t .said)) (saidLine k (saidRefused (c .why))) c

@@ -39,12 +39,12 @@ use denote.Triple.Table.{entered, cited}
 use denote.Triple.Clauses.{ensured, lasts}
 use denote.Triple.Walked.{says, Stays, stay-ref, stay-none, walkOf, AllGo, goes-none, goes-ref, Walks, ends-at, walked, walk-meets}
 use denote.Exit.{yes}
-use Rattle.clock.specs.Advance.{advanceOn}
-use Rattle.clock.specs.declared.Advanced.{Advanced}
 use Rattle.height.specs.Clock.{saidMoved}
-use Rattle.refusal.specs.Outcome.{outcome}
 use Rattle.height.specs.declared.Moved.{Moved}
 use Rattle.height.specs.declared.Time.{Time}
+use Rattle.refusal.specs.Outcome.{outcome}
+use Rattle.clock.specs.Advance.{advanceOn}
+use Rattle.clock.specs.declared.Advanced.{Advanced}
 use Rattle.height.proofs.Moved as E
 use Rattle.height.proofs.Moved.Laws as E′
 use Rattle.height.proofs.Time as T

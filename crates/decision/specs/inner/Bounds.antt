@@ -2,11 +2,11 @@
 use Prim.Native.Nat.{ℕ}
 use Rattle.height.specs.Words.{Negated}
 use Rattle.protocol.specs.Network.{Node}
-use Rattle.protocol.specs.declared.Rule.{Rule}
 use Rattle.protocol.specs.declared.Rule.the-variants.{ChannelUp, ElectSelf, StartNewRefLevel, NoChange, Ignored}
 use Rattle.protocol.specs.declared.Rule.the-variants.{ReflectRefLevel, PropagateLargestRefLevel, AdoptLpIfPriority, Reply}
-use Rattle.decision.specs.declared.After.{After}
+use Rattle.protocol.specs.declared.Rule.{Rule}
 use Rattle.decision.specs.declared.After.the-variants.{New, TooDeep}
+use Rattle.decision.specs.declared.After.{After}
 
 -- the new height's election time is a negated time
 abbrev pub NegatedAfter : After → Type 0

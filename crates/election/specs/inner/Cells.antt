@@ -10,8 +10,8 @@ use Rattle.nodeset.specs.NodeSet.{member}
 use Rattle.protocol.specs.Network.{Node, capacity}
 use Rattle.tables.specs.Cell.{count, appended, taken, emptied}
 use Rattle.tables.specs.Tables.{cellWidth, channelOf}
-use Rattle.election.specs.declared.Kind.{Kind}
 use Rattle.election.specs.declared.Kind.the-variants.{Raised, Dropped, Received}
+use Rattle.election.specs.declared.Kind.{Kind}
 
 -- the table cs has the cells f x y
 pub record CellsAre (n : ℕ) (cs : List ℕ) (f : ℕ → ℕ → List ℕ) : Type 0 where

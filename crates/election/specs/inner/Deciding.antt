@@ -3,28 +3,28 @@ use Prim.Native.Nat.{ℕ, _<_, _^_, _≤_}
 use mathlib.Core.Bool.{false}
 use mathlib.Core.List.{List}
 use mathlib.Core.Path.{_≡_}
-use Rattle.refusal.specs.Outcome.{outcome}
 use Rattle.decision.specs.After.{seen}
 use Rattle.decision.specs.declared.Decision.{Decision}
 use Rattle.decision.specs.inner.Bounds.{AdoptsNode}
 use Rattle.height.specs.Clock.{lastTime}
 use Rattle.height.specs.Words.{Negated}
 use Rattle.height.specs.declared.Height.{Height}
-use Rattle.protocol.specs.Answer.{saidRefused}
-use Rattle.refusal.specs.Refusal.{whyOf}
 use Rattle.nodeset.specs.NodeSet.{member}
+use Rattle.protocol.specs.Answer.{saidRefused}
 use Rattle.protocol.specs.Network.{Node}
 use Rattle.protocol.specs.Refusal.{unfit}
 use Rattle.protocol.specs.Step.{Event, up, down, receive, Local, local, carried}
-use Rattle.tables.specs.inner.Fit.{TablesFit}
+use Rattle.refusal.specs.Outcome.{outcome}
+use Rattle.refusal.specs.Refusal.{whyOf}
 use Rattle.tables.specs.Load.{load}
 use Rattle.tables.specs.Row.{putHeight, withHead}
 use Rattle.tables.specs.Tables.{Tables, nodeOf, channelOf}
+use Rattle.tables.specs.inner.Fit.{TablesFit}
 use Rattle.election.specs.StepOn.{stepAt}
-use Rattle.election.specs.declared.Decided.{Decided}
 use Rattle.election.specs.declared.Decided.the-variants.{As, Refused}
-use Rattle.election.specs.declared.Kind.{Kind}
+use Rattle.election.specs.declared.Decided.{Decided}
 use Rattle.election.specs.declared.Kind.the-variants.{Raised, Dropped, Received}
+use Rattle.election.specs.declared.Kind.{Kind}
 
 -- the event of this kind at u with v
 abbrev pub eventOf : Kind → ℕ → ℕ → Event

@@ -11,7 +11,7 @@ use Rattle.tables.specs.Row.{clockIn, neighborsIn, formingIn}
 use Rattle.tables.specs.Rows.{rows, rowAt}
 use Rattle.tables.specs.Tables.{rowHead, heightSize, messageSize}
 use Rattle.image.specs.Places.{fieldIn, channelFrom, heightsFrom}
-use Rattle.image.specs.Widths.{widthsOf, recordBits, recordOf, nodeHead, heightWidth}
+use Rattle.image.specs.Widths.{widthsOf, recordBits}
 
 -- ---- the bits of words
 

@@ -6,10 +6,10 @@ use mathlib.Core.List.{List}
 use mathlib.Core.Path.{_≡_}
 use Rattle.pairs.specs.Pair.{pairSound}
 use Rattle.refusal.specs.declared.Why.{Why}
-use Rattle.image_reading.specs.declared.Walk.{Walk}
-use Rattle.image_reading.specs.declared.Walk.the-variants.{At}
-use Rattle.image_reading.specs.inner.Cells.{cellBehind}
 use Rattle.image_reading.specs.Walk.{saidWalk}
+use Rattle.image_reading.specs.declared.Walk.the-variants.{At}
+use Rattle.image_reading.specs.declared.Walk.{Walk}
+use Rattle.image_reading.specs.inner.Cells.{cellBehind}
 
 -- the pair u, v, with u's row; the channels from u start at q
 unfoldable pub rowHolds : ℕ → ℕ → List ℕ → List ℕ → ℕ → ℕ → ℕ → Bool

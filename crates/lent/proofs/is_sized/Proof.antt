@@ -3,8 +3,8 @@ use Prim.Native.Nat.{_+_, _*_}
 use native.Mathlib.Omega.{arith}
 use borrow.Author.Needs.{needs}
 use borrow.Author.Tests.{le-leb, lt-leb}
-use Rattle.tables.proofs.RowsLaws.{product-le}
 use Rattle.tables.specs.Tables.{sized}
+use Rattle.tables.proofs.RowsLaws.{product-le}
 use Rattle.lent.proofs.is_sized.Statement.{statement}
 use Rattle.lent.proofs.is_sized.Tie as tie
 

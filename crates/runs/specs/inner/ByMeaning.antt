@@ -4,13 +4,13 @@ use Prim.Native.Nat.{ℕ}
 use mathlib.Core.Bool.{cond}
 use mathlib.Core.List.{List}
 use lib.Dec.{eqb}
-use Rattle.refusal.specs.Refusal.{why}
-use Rattle.refusal.specs.Outcome.{Answered, Outcome, outcome, putFront, refusedWith}
 use Rattle.basics.specs.Functions.{sayAll}
-use Rattle.image.specs.Image.{image}
-use Rattle.protocol.specs.Network.{Network}
 use Rattle.calls.specs.Run.{Call, event, save, restore, Calls, RunState, act, meant}
+use Rattle.image.specs.Image.{image}
 use Rattle.image_snapshot.specs.Restore.{restoreOn}
+use Rattle.protocol.specs.Network.{Network}
+use Rattle.refusal.specs.Outcome.{Answered, Outcome, outcome, putFront, refusedWith}
+use Rattle.refusal.specs.Refusal.{why}
 use Rattle.tables.specs.Load.{load, tablesOf}
 use Rattle.runs.specs.OnTables.{Reply, toEvent, toSave, toRestore, writing}
 

@@ -2,9 +2,9 @@
 use native.Mathlib.Omega.{arith}
 use mathlib.Core.Path.{sym, ap, _∙_}
 use lib.Seq.{length-take-le}
+use Rattle.commands.specs.Commands.{linesOf}
 use Rattle.commands.proofs.LineLaws.{head-range}
 use Rattle.bench_run.specs.Listing.{badPlot, plotListing}
-use Rattle.commands.specs.Commands.{linesOf}
 use lib.ListN.{take, drop}
 use Prim.Native.Nat.{ℕ, _+_}
 use Rattle.bench_run.proofs.PlotLaws.{listing-misfit, fits, is-listing, listing-bad, listing-plot}

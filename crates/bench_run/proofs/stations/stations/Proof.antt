@@ -4,12 +4,12 @@ use native.Mathlib.Omega.{arith}
 use mathlib.Core.List.{[]}
 use mathlib.Core.Path.{ap, _∙_}
 use lib.ListN.{length}
-use Rattle.text.proofs.TextLaws.{length-poured}
+use Rattle.protocol.specs.Network.{Node}
 use Rattle.tables.specs.Tables.{tables}
+use Rattle.text.proofs.TextLaws.{length-poured}
 use Rattle.bench_run.specs.inner.OnTables.{stationLineOn, stationLinesOn}
 use Rattle.bench_run.proofs.PourLaws.{both}
 use Rattle.bench_run.proofs.StationLaws.{Printed, printed-none, printed-next, printed-all}
-use Rattle.protocol.specs.Network.{Node}
 use Rattle.bench_run.proofs.stations.stations.Statement.{statement}
 use Rattle.bench_run.proofs.stations.stations.Tie as tie
 

@@ -4,8 +4,8 @@ use Prim.Native.Nat.{_+_, _-_, _*_, _%_, _^_, _≤_}
 use native.Mathlib.Omega.{arith}
 use mathlib.Core.Path.{_≡_, sym, ap, _∙_}
 use Rattle.bits.specs.Bits.{field}
-use Rattle.bits.proofs.Turns.{field-none}
 use Rattle.bits.proofs.SixtyFour.{load-turn, load-fits}
+use Rattle.bits.proofs.Turns.{field-none}
 use Rattle.bits.proofs.words.load.Statement.{statement}
 use Rattle.bits.proofs.words.load.Tie as tie
 

@@ -6,8 +6,8 @@ use mathlib.Core.Path.{_≡_, refl, _∙_}
 use lib.ListN.{length, length-set}
 use Rattle.bits.specs.Bits.{bits, unpacked, over}
 use Rattle.bits.proofs.Numbers.{Below, below-set}
-use Rattle.bits.proofs.Turns.{put-none, put-all}
 use Rattle.bits.proofs.SixtyFour.{store-turn}
+use Rattle.bits.proofs.Turns.{put-none, put-all}
 use Rattle.bits.proofs.words.store.Statement.{statement}
 use Rattle.bits.proofs.words.store.Tie as tie
 

@@ -9,9 +9,9 @@ use native.Mathlib.Omega.{arith}
 use types.Run.{OneOf, miss}
 use Rattle.height.specs.declared.Height.{Height}
 use Rattle.height.proofs.WordsLaws.{negated-word}
-use Rattle.protocol.specs.declared.Rule.{Rule}
 use Rattle.protocol.specs.declared.Rule.the-variants.{ChannelUp, ElectSelf, StartNewRefLevel, NoChange, Ignored}
 use Rattle.protocol.specs.declared.Rule.the-variants.{ReflectRefLevel, PropagateLargestRefLevel, AdoptLpIfPriority, Reply}
+use Rattle.protocol.specs.declared.Rule.{Rule}
 use Rattle.protocol.proofs.Rule as declared
 use Rattle.decision.specs.After.{afterRule}
 use Rattle.decision.specs.declared.After.the-variants.{New}

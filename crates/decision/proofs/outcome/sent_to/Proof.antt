@@ -9,9 +9,9 @@ use types.Run.{OneOf, miss}
 use Rattle.nodeset.specs.NodeSet.{sameNode, inEither}
 use Rattle.nodeset.proofs.Members.{setOf-none, setOf-ext}
 use Rattle.protocol.specs.Step.{sends}
-use Rattle.protocol.specs.declared.Rule.{Rule}
 use Rattle.protocol.specs.declared.Rule.the-variants.{ChannelUp, ElectSelf, StartNewRefLevel, NoChange, Ignored}
 use Rattle.protocol.specs.declared.Rule.the-variants.{ReflectRefLevel, PropagateLargestRefLevel, AdoptLpIfPriority, Reply}
+use Rattle.protocol.specs.declared.Rule.{Rule}
 use Rattle.protocol.proofs.Rule as declared
 use Rattle.decision.specs.After.{sendsTo}
 use Rattle.decision.proofs.outcome.sent_to.Statement.{statement}

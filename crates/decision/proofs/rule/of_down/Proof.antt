@@ -5,12 +5,12 @@ use borrow.Author.Tests.{not-true}
 use lib.Pow.{pow-pos}
 use mathlib.Core.Bool.{true, false, not}
 use mathlib.Core.Path.{_≡_, ap, sym, _∙_}
+use Rattle.basics.specs.Functions.{every}
+use Rattle.basics.proofs.FunctionsLaws.{every-at, every-all}
 use Rattle.basics.proofs.Tests.{not-true-is-false}
 use Rattle.nodeset.specs.NodeSet.{member}
 use Rattle.nodeset.proofs.Members.{none-in-zero, same-members}
-use Rattle.basics.specs.Functions.{every}
 use Rattle.protocol.specs.Rules.{absent, downRule}
-use Rattle.basics.proofs.FunctionsLaws.{every-at, every-all}
 use Rattle.decision.proofs.rule.of_down.Statement.{statement}
 use Rattle.decision.proofs.rule.of_down.Tie as tie
 

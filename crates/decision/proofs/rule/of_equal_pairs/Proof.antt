@@ -1,7 +1,7 @@
 -- `decision::rule::of_equal_pairs` meets its contract: the tests are those of `equalPairsRule`, and v's level is the view's.
 use borrow.Author.Needs.{needs}
-use Rattle.protocol.specs.Rules.{equalPairsRule}
 use Rattle.basics.proofs.FunctionsLaws.{update-at}
+use Rattle.protocol.specs.Rules.{equalPairsRule}
 use Rattle.decision.proofs.rule.of_equal_pairs.Statement.{statement}
 use Rattle.decision.proofs.rule.of_equal_pairs.Tie as tie
 

@@ -1,7 +1,7 @@
 -- `decision::rule::of_receipt` meets its contract: the tests are those of `receiptRule`, and v's pair is the view's.
 use borrow.Author.Needs.{needs}
-use Rattle.protocol.specs.Rules.{receiptRule}
 use Rattle.basics.proofs.FunctionsLaws.{update-at}
+use Rattle.protocol.specs.Rules.{receiptRule}
 use Rattle.decision.proofs.rule.of_receipt.Statement.{statement}
 use Rattle.decision.proofs.rule.of_receipt.Tie as tie
 

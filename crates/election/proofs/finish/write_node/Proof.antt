@@ -1,8 +1,7 @@
 -- `election::finish::write_node` meets its contract: the part that is lent is u's row.
-use mathlib.Core.Path.{refl, ap, _∙_}
-use lib.ListN.{length}
+use mathlib.Core.Path.{refl}
 use borrow.Author.Needs.{needs}
-use Rattle.tables.proofs.RowsLaws.{part-row, changed-row, node-length}
+use Rattle.tables.proofs.RowsLaws.{changed-row}
 use Rattle.election.specs.inner.Deciding.{rowAfter}
 use Rattle.election.proofs.finish.write_node.Statement.{statement}
 use Rattle.election.proofs.finish.write_node.Tie as tie

@@ -3,8 +3,8 @@
 use mathlib.Core.Path.{sym, _∙_}
 use native.Mathlib.Omega.{arith}
 use borrow.Author.Tests.{not-true, not-false}
-use Rattle.election.specs.inner.Cells.{roomFor}
 use Rattle.decision.proofs.Descent.{Passed, rest-start, passed-one, passed-not, passed-all}
+use Rattle.election.specs.inner.Cells.{roomFor}
 use Rattle.election.proofs.sending.has_room.Statement.{statement}
 use Rattle.election.proofs.sending.has_room.Tie as tie
 

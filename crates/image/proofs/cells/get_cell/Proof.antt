@@ -6,8 +6,8 @@ use lib.ListN.{length, length-set}
 use Rattle.bits.specs.Bits.{unpacked, field}
 use Rattle.image.specs.Places.{fieldIn}
 use Rattle.image.specs.Widths.{messageWidth}
-use Rattle.image.proofs.PartLaws.{length-cell-from}
 use Rattle.image.proofs.PartCalls.{cell-got, behind-count}
+use Rattle.image.proofs.PartLaws.{length-cell-from}
 use borrow.Author.Needs.{needs}
 use Rattle.image.proofs.cells.get_cell.Statement.{statement}
 use Rattle.image.proofs.cells.get_cell.Tie as tie

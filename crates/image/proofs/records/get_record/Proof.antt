@@ -7,8 +7,8 @@ use mathlib.Core.List.{List, _++_}
 use lib.ListN.{length, take, drop, getD, set, length-take}
 use borrow.Author.Needs.{needs}
 use Rattle.bits.specs.Bits.{unpacked, gathered}
-use Rattle.bits.proofs.Numbers.{below-drop}
 use Rattle.bits.proofs.Bytes.{below-unpacked}
+use Rattle.bits.proofs.Numbers.{below-drop}
 use Rattle.image.specs.Widths.{widthsOf, extendedOf}
 use Rattle.image.proofs.RecordLaws.{length-widths, depth-width, gathered-lt}
 use Rattle.image.proofs.StampLaws.{height-room, stamp-room, seven-got, length-kept, depth-got, height-got, message-got, stamp-field}

@@ -4,8 +4,8 @@ use mathlib.Core.Path.{sym, ap, _∙_}
 use lib.ListN.{length, length-set}
 use Rattle.bits.specs.Bits.{unpacked}
 use Rattle.image.specs.Widths.{nodeWidth}
-use Rattle.image.proofs.PartLaws.{length-row-from}
 use Rattle.image.proofs.PartCalls.{row-got, row-rest}
+use Rattle.image.proofs.PartLaws.{length-row-from}
 use borrow.Author.Needs.{needs}
 use Rattle.image.proofs.rows.get_row.Statement.{statement}
 use Rattle.image.proofs.rows.get_row.Tie as tie

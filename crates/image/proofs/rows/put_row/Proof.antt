@@ -4,8 +4,8 @@ use native.Mathlib.Omega.{arith}
 use mathlib.Core.Path.{_≡_, _∙_}
 use lib.ListN.{length, take, drop}
 use Rattle.image.specs.Widths.{heightWidth, nodeWidth}
-use Rattle.image.proofs.PartTurns.{heights, behind-sets}
 use Rattle.image.proofs.PartCalls.{rest-length, inside-after, row-put}
+use Rattle.image.proofs.PartTurns.{heights, behind-sets}
 use borrow.Author.Needs.{needs}
 use Rattle.image.proofs.rows.put_row.Statement.{statement}
 use Rattle.image.proofs.rows.put_row.Tie as tie

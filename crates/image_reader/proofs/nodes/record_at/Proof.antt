@@ -1,8 +1,8 @@
 -- `image_reader::nodes::record_at` meets its contract: four parts of one record.
 use Prim.Native.Nat.{_+_}
 use native.Mathlib.Omega.{arith}
-use Rattle.bits.proofs.Bytes.{field-lt}
 use Rattle.bits.specs.Bits.{field}
+use Rattle.bits.proofs.Bytes.{field-lt}
 use Rattle.image.specs.Places.{fieldIn}
 use Rattle.image_reader.specs.Record.{recordIn}
 use Rattle.image_reader.proofs.RecordLaws.{head-inside}

@@ -8,9 +8,9 @@ use lib.ListN.{length}
 use Rattle.bits.specs.Bits.{unpacked}
 use Rattle.image.specs.Places.{channelsPlace, tablesIn}
 use Rattle.image.specs.Widths.{heightWidth, nodeWidth}
+use Rattle.image.proofs.Bounds.{heights-small, nodes-small}
 use Rattle.lent.specs.Check.{pairAt, firstFault}
 use Rattle.tables.specs.Tables.{width, cellWidth}
-use Rattle.image.proofs.Bounds.{heights-small, nodes-small}
 use Rattle.image_reading.proofs.ReadLaws.{node-inside, ChannelsAt, channels-start, channels-next, channels-of}
 use Rattle.image_reading.proofs.SearchLaws.{RowsHeld, rows-held-none, rows-held-next, rows-held-fault, rows-held-all, row-searched}
 use Rattle.image_reading.proofs.contents.first_fault.Statement.{statement}

@@ -6,16 +6,16 @@ use native.Mathlib.Omega.{arith}
 use mathlib.Core.Path.{refl, sym, _∙_}
 use Rattle.bits.specs.Bits.{unpacked}
 use Rattle.image.specs.Places.{channelsPlace, recordsIn, tablesIn}
-use Rattle.tables.specs.Records.{cellWords, tablesFrom}
 use Rattle.image.specs.Widths.{heightWidth, nodeWidth}
-use Rattle.tables.specs.Rows.{rows}
-use Rattle.tables.specs.Tables.{cellWidth}
-use Rattle.tables.proofs.RowsLaws.{row-fits}
-use Rattle.image_reading.proofs.FillLaws.{Filling, fill-start, fill-done, fill-wide, fill-next}
 use Rattle.image.proofs.Bounds.{heights-small, nodes-small}
 use Rattle.image.proofs.PartLaws.{records-shaped}
+use Rattle.tables.specs.Records.{cellWords, tablesFrom}
+use Rattle.tables.specs.Rows.{rows}
+use Rattle.tables.specs.Tables.{cellWidth}
 use Rattle.tables.proofs.RecordsLaws.{length-cells}
+use Rattle.tables.proofs.RowsLaws.{row-fits}
 use Rattle.tables.proofs.Sizes.{cell-rows-small}
+use Rattle.image_reading.proofs.FillLaws.{Filling, fill-start, fill-done, fill-wide, fill-next}
 use Rattle.image_reading.proofs.ReadLaws.{ChannelsAt, channels-start, channels-next, channels-of, cells-got}
 use Rattle.image_reading.proofs.filling.read_cells.Statement.{statement}
 use Rattle.image_reading.proofs.filling.read_cells.Tie as tie

@@ -4,15 +4,15 @@ use native.Mathlib.Omega.{arith}
 use mathlib.Core.Path.{refl, sym, _∙_}
 use Rattle.bits.specs.Bits.{unpacked}
 use Rattle.image.specs.Places.{recordsIn, tablesIn}
-use Rattle.tables.specs.Records.{rowWords, tablesFrom}
 use Rattle.image.specs.Widths.{heightWidth, nodeWidth}
-use Rattle.tables.specs.Tables.{width}
-use Rattle.tables.proofs.RowsLaws.{row-fits}
-use Rattle.image_reading.proofs.FillLaws.{Filling, fill-start, fill-done, fill-wide, fill-next}
 use Rattle.image.proofs.Bounds.{heights-small}
-use Rattle.tables.proofs.Sizes.{rows-small}
 use Rattle.image.proofs.PartLaws.{records-shaped}
+use Rattle.tables.specs.Records.{rowWords, tablesFrom}
+use Rattle.tables.specs.Tables.{width}
 use Rattle.tables.proofs.RecordsLaws.{length-row}
+use Rattle.tables.proofs.RowsLaws.{row-fits}
+use Rattle.tables.proofs.Sizes.{rows-small}
+use Rattle.image_reading.proofs.FillLaws.{Filling, fill-start, fill-done, fill-wide, fill-next}
 use Rattle.image_reading.proofs.ReadLaws.{node-inside, row-got}
 use Rattle.image_reading.proofs.filling.read_rows.Statement.{statement}
 use Rattle.image_reading.proofs.filling.read_rows.Tie as tie

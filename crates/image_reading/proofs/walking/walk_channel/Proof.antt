@@ -1,6 +1,6 @@
 -- `image_reading::walking::walk_channel` meets its contract: each return is one law of ByteLaws.antt.
-use Rattle.image_reading.proofs.ByteLaws.{own-channel, no-count, too-many, messages-cut, goes-on}
 use Rattle.image.proofs.Bounds.{messages-small}
+use Rattle.image_reading.proofs.ByteLaws.{own-channel, no-count, too-many, messages-cut, goes-on}
 use native.Mathlib.Omega.{arith}
 use borrow.Author.Needs.{needs}
 use Rattle.image_reading.proofs.walking.walk_channel.Statement.{statement}

@@ -1,8 +1,8 @@
 -- `image_reading::walking::walk_channels` meets its contract: the laws of `Walking` (Steps.antt), the channels from one node at most 16 * 1156 bits.
+use Rattle.bits.specs.Bits.{unpacked}
+use Rattle.image_reading.specs.Walk.{channelsFromWalk, channelsWalk}
 use Rattle.image_reading.proofs.Steps.{Walking, walk-start, walk-next, walk-stops, walk-done}
 use Rattle.image_reading.proofs.WalkLaws.{row-near}
-use Rattle.image_reading.specs.Walk.{channelsFromWalk, channelsWalk}
-use Rattle.bits.specs.Bits.{unpacked}
 use Prim.Native.Nat.{_-_}
 use native.Mathlib.Omega.{arith}
 use borrow.Author.Needs.{needs}

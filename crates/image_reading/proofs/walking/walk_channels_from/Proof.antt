@@ -1,7 +1,7 @@
 -- `image_reading::walking::walk_channels_from` meets its contract: the laws of `Walking` (Steps.antt), a step at most 1156 bits far.
-use Rattle.image_reading.proofs.Steps.{Walking, walk-start, walk-next, walk-stops, walk-done, channel-stepped}
-use Rattle.image_reading.specs.Walk.{channelStep, channelsFromWalk}
 use Rattle.bits.specs.Bits.{unpacked}
+use Rattle.image_reading.specs.Walk.{channelStep, channelsFromWalk}
+use Rattle.image_reading.proofs.Steps.{Walking, walk-start, walk-next, walk-stops, walk-done, channel-stepped}
 use Prim.Native.Nat.{_-_}
 use native.Mathlib.Omega.{arith}
 use borrow.Author.Needs.{needs}

@@ -1,6 +1,6 @@
 -- `image_reading::walking::whole` meets its contract: each return is one law of ByteLaws.antt.
-use Rattle.image_reading.proofs.ByteLaws.{nodes-cut, nodes-stand}
 use Rattle.image.proofs.Bounds.{heights-small, nodes-small}
+use Rattle.image_reading.proofs.ByteLaws.{nodes-cut, nodes-stand}
 use native.Mathlib.Omega.{arith}
 use borrow.Author.Needs.{needs}
 use Rattle.image_reading.proofs.walking.whole.Statement.{statement}

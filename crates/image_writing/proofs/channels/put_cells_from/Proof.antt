@@ -5,8 +5,8 @@ use native.Mathlib.Omega.{arith}
 use mathlib.Core.Logic.{⊎-elim}
 use mathlib.Core.Path.{_≡_, ap, sym, _∙_}
 use Rattle.bits.specs.Bits.{written}
-use Rattle.image.specs.inner.Parts.{Inside, cellBits}
 use Rattle.image.specs.Widths.{messageWidth}
+use Rattle.image.specs.inner.Parts.{Inside, cellBits}
 use Rattle.protocol.specs.Network.{Node}
 use Rattle.tables.specs.Cell.{count}
 use Rattle.image_writing.specs.inner.Words.{cellBitsAt, cellsFromBits}

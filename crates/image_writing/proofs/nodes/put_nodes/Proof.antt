@@ -6,11 +6,11 @@ use mathlib.Core.List.{List}
 use mathlib.Core.Path.{_≡_, ap, _∙_}
 use lib.ListN.{length}
 use Rattle.bits.specs.Bits.{written}
-use Rattle.image.specs.inner.Parts.{Inside, rowBits}
 use Rattle.image.specs.Widths.{heightWidth, nodeWidth}
+use Rattle.image.specs.inner.Parts.{Inside, rowBits}
+use Rattle.image.proofs.Bounds.{heights-small}
 use Rattle.tables.specs.Tables.{width, nodeOf}
 use Rattle.image_writing.specs.inner.Words.{nodesBits}
-use Rattle.image.proofs.Bounds.{heights-small}
 use Rattle.image_writing.proofs.LengthLaws.{nodeBitsAt, below-node, length-node, nodes-inside}
 use Rattle.image_writing.proofs.PieceLaws.{Laid, laid-start, laid-room, laid-next, laid-all}
 use Rattle.image_writing.proofs.nodes.put_nodes.Statement.{statement}

@@ -1,8 +1,8 @@
 -- `lent::search::pair_holds` meets its contract, by whether u is v: the parts that are lent are the row of u and the cell of u to v.
 use borrow.Author.Needs.{needs}
 use borrow.Author.Tests.{eq-eqb, ne-eqb}
-use Rattle.lent.specs.Check.{pairAt}
 use Rattle.pairs.specs.Pair.{pairSound}
+use Rattle.lent.specs.Check.{pairAt}
 use Rattle.lent.proofs.search.pair_holds.Statement.{statement}
 use Rattle.lent.proofs.search.pair_holds.Tie as tie
 
