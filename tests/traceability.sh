@@ -3,7 +3,7 @@
 # And two things that no proof says of the text: every public function of a library has a statement, and outside `height` nothing negates a time.
 # A line for each thing that is wrong and exit code 1, or one line with how many names were checked.
 # The notation, in every cell but the first of a row (other text in a cell is free):
-#   `crate` File `name`, `name`    names of crates/CRATE/specs/File.antt or crates/CRATE/proofs/File.antt
+#   `crate` File `name`, `name`    names of crates/CRATE/specs/File.antt, crates/CRATE/specs/inner/File.antt or crates/CRATE/proofs/File.antt
 #   `crate::module::name`          a function, a struct or an enum of crates/CRATE/src; no module: of lib.rt or main.rt
 #   `must-fail crate/name`         crates/CRATE/must-fail/NAME.edit
 #   `compare file::name`           a test of tests/compare/tests; `reference ..` of tests/reference/src, `rust ..` of rust/tests
@@ -51,7 +51,7 @@ awk '
 
 {
     awk '
-        FNR == 1 { split(FILENAME, part, "/"); crate = part[2]; file = part[4]; sub(/\.antt$/, "", file) }
+        FNR == 1 { count = split(FILENAME, part, "/"); crate = part[2]; file = part[count]; sub(/\.antt$/, "", file) }
         {
             i = 1
             if ($i == "unfoldable" || $i == "abbrev") i++
@@ -60,7 +60,7 @@ awk '
             if ($i == "record" || $i == "data") i++
             print "name " crate " " file " " $i
         }
-    ' crates/*/specs/*.antt crates/*/proofs/*.antt
+    ' crates/*/specs/*.antt crates/*/specs/inner/*.antt crates/*/proofs/*.antt
     awk '
         FNR == 1 {
             split(FILENAME, part, "/")

@@ -30,6 +30,8 @@ use Rattle.lent.specs.declared.Checked.the-variants as checks
 use Rattle.image_reader.specs.Record.{unread}
 use Rattle.refusal.specs.Refusal.{why, whyOf}
 use Rattle.refusal.specs.declared.Refusal.{Refusal}
+use Rattle.refusal.specs.Outcome.{Answered}
+use Rattle.refusal.specs.declared.Why.{Why}
 use Rattle.refusal.proofs.RefusalLaws.{never-0}
 use Rattle.tables.proofs.RowsLaws.{product-le}
 use Rattle.image_snapshot.specs.ReadNode.{nodePlaced, nodeExamined, nodeSized, nodeHeaded, readNodeOn}
@@ -51,10 +53,10 @@ node-is n k e = go (choice (ltb k 1)) (choice (ltb n k))
 
 -- ---- by what the header and the checks answer
 
-pub node-refused : (xs : List ℕ) (k place : ℕ) (row : List ℕ) {h : Header} → saidHeader h ≡ headerOf xs → {r : Refusal} → h ≡ Refused r
-    → unread (whyOf r) row ≡ readNodeOn xs k place row
+pub node-refused : (xs : List ℕ) (k place : ℕ) (row : List ℕ) {s : Answered Fields} → s ≡ headerOf xs → (s .why .number ≡ 0 → ⊥) → {w : Why} → w ≡ s .why
+    → unread w row ≡ readNodeOn xs k place row
 unfolding readNodeOn nodeHeaded
-node-refused xs k place row e {r} q = rw (← e, q, never-0 r)
+node-refused xs k place row {s} e d q = rw (← e, ne-eqb (s .why .number) 0 d, q)
 
 pub node-headed : (xs : List ℕ) (k place : ℕ) (row : List ℕ) {h : Header} → saidHeader h ≡ headerOf xs → {f : Fields} → h ≡ Good f
     → nodeSized (f .length) (f .n) (unpacked xs) k place row ≡ readNodeOn xs k place row

@@ -2,8 +2,12 @@
 use Prim.Native.Nat.{ℕ, _≤_}
 use native.Mathlib.Omega.{arith}
 use mathlib.Core.Bool.{true, false}
-use mathlib.Core.List.{List}
+use mathlib.Core.List.{List, [], _∷_}
 use mathlib.Core.Path.{_≡_, sym, ap, _∙_}
+use borrow.Author.Tests.{eq-eqb, ne-eqb}
+use denote.Enum.Declared.{tagOf}
+use types.Run.{OneOf, miss}
+use Rattle.basics.proofs.Tests.{clash}
 use Rattle.bits.specs.Bits.{field, unpacked}
 use Rattle.image.specs.Places.{tablesIn}
 use Rattle.image_reading.specs.Examine.{Walkable, examined}
@@ -20,15 +24,21 @@ use Rattle.refusal.specs.declared.Refusal.{Refusal}
 use Rattle.refusal.specs.declared.Why.{Why}
 use Rattle.refusal.proofs.RefusalLaws.{never-0}
 use Rattle.tables.specs.Tables.{Tables, sized}
+use Rattle.image_reading.proofs.Header as declared
 use Rattle.image_snapshot.specs.Restore.{restoreExamined, restoreOf, restoreHeaded, restoreOn}
 use Rattle.image_snapshot.proofs.AcceptedLaws.{header-good, examined-good}
 
 -- ---- the header
 
-pub headed-refused : (xs : List ℕ) (t : Tables) {h : Header} → saidHeader h ≡ headerOf xs → {r : Refusal} → h ≡ Refused r
-    → outcome (whyOf r) t ≡ restoreOn xs t
+-- one that `let .. else` turns away is not good
+pub refused : (h : Header) → OneOf (1 ∷ []) (tagOf declared.the-type h) → saidHeader h .why .number ≡ 0 → ⊥
+refused (Good f) k z = miss (1 ∷ []) 0 tt k
+refused (Refused r) k z = clash (eq-eqb (whyOf r .number) 0 z) (never-0 r)
+
+pub headed-refused : (xs : List ℕ) (t : Tables) {s : Answered Fields} → s ≡ headerOf xs → (s .why .number ≡ 0 → ⊥) → {w : Why} → w ≡ s .why
+    → outcome w t ≡ restoreOn xs t
 unfolding restoreOn restoreHeaded
-headed-refused xs t e {r} q = rw (← e, q, never-0 r)
+headed-refused xs t {s} e d q = rw (← e, ne-eqb (s .why .number) 0 d, q)
 
 pub headed-good : (xs : List ℕ) (t : Tables) {h : Header} → saidHeader h ≡ headerOf xs → {f : Fields} → h ≡ Good f
     → restoreOf (f .n) (unpacked xs) t ≡ restoreOn xs t

@@ -2,8 +2,10 @@
 // Every call answers or refuses; a refusal changes nothing lent.
 ghost use mathlib.Core.Path.{_≡_};
 ghost use Rattle.image_reader.specs.Record.{saidNode};
+ghost use Rattle.image_reading.specs.Header.{saidHeader};
 ghost use Rattle.lent.specs.Check.{saidCheck};
 ghost use Rattle.refusal.specs.Outcome.{outcome};
+ghost use Rattle.refusal.specs.Refusal.{whyOf};
 ghost use Rattle.tables.specs.Tables.{atEntry, atExit};
 ghost use Rattle.image_snapshot.specs.ReadNode.{readNodeOn};
 ghost use Rattle.image_snapshot.specs.Restore.{restoreOn};
@@ -36,22 +38,35 @@ pub fn save(n: u32, nodes: &[u32], channels: &[u32], out: &mut [u8]) -> Saved
     }
 }
 
+// Why a header that is not good is turned away.
+fn turned_away(h: Header) -> Refusal
+    requires { ⌜ (saidHeader h .why .number ≡ 0 → ⊥) ⌝ }
+    ensures { λ r. ⌜ whyOf r ≡ saidHeader h .why ⌝ }
+{
+    match h {
+        Header::Good(_) => Refusal::BadHeader,
+        Header::Refused(why) => why,
+    }
+}
+
 // The network of an image goes into the tables: 10, 11, 1, 2, 12, or done (0).
 pub fn restore(image: &[u8], nodes: &mut [u32], channels: &mut [u32]) -> Checked
     ensures { λ r. ⌜ outcome (saidCheck r) (atExit nodes channels) ≡ restoreOn (now (image .entry)) (atEntry nodes channels) ⌝ }
 {
-    match image_reading::decode(image) {
-        Header::Good(fields) => restoring::headed(image, fields.n, nodes, channels),
-        Header::Refused(why) => Checked::Refused(why),
-    }
+    let h = image_reading::decode(image);
+    let Header::Good(fields) = h else {
+        return Checked::Refused(turned_away(h));
+    };
+    restoring::headed(image, fields.n, nodes, channels)
 }
 
 // Node k of an image, where its record is said to start: the heights go into `row`. As a restore, then 3 and 13.
 pub fn read_node(image: &[u8], k: u32, place: u64, row: &mut [u32]) -> NodeRead
     ensures { λ r. ⌜ outcome (saidNode r) (now (row .exit)) ≡ readNodeOn (now (image .entry)) k place (now (row .entry)) ⌝ }
 {
-    match image_reading::decode(image) {
-        Header::Good(fields) => looking::headed(image, fields, k, place, row),
-        Header::Refused(why) => NodeRead::Refused(why),
-    }
+    let h = image_reading::decode(image);
+    let Header::Good(fields) = h else {
+        return NodeRead::Refused(turned_away(h));
+    };
+    looking::headed(image, fields, k, place, row)
 }
