@@ -1,6 +1,6 @@
 #!/usr/bin/env bash
 # Checks docs/TRACEABILITY.md against the project: every name in it exists, no cell is empty, every must-fail edit is named.
-# And two things that no proof says of the text: every public function of a library has a statement, and outside `height` nothing negates a time.
+# And two things that no proof says of the text: every public function of a library has a statement (but what the programs share, which prints), and outside `height` nothing negates a time.
 # A line for each thing that is wrong and exit code 1, or one line with how many names were checked.
 # The notation, in every cell but the first of a row (other text in a cell is free):
 #   `crate` File `name`, `name`    names of crates/CRATE/specs/File.antt, crates/CRATE/specs/inner/File.antt or crates/CRATE/proofs/File.antt
@@ -99,7 +99,7 @@ bare() {
 }
 
 {
-    for lib in crates/*/src/lib.rt; do bare "${lib%/*}"/*.rt; done | sed 's/^/no statement: /'
+    for lib in crates/*/src/lib.rt; do grep -q 'io::' "$lib" || bare "${lib%/*}"/*.rt; done | sed 's/^/no statement: /'
     grep -n 'NegatedTime(\|nlts_of(\|\.negated()' crates/*/src/*.rt | grep -v '^crates/height/\|NegatedTime(0)' | sed 's/^/a time negated: /' || true
     grep -Fxv -f "$work/there" "$work/named" | sed 's/^/not in the project: /' || true
     grep -Fxv -f "$work/named" "$work/there" | sed -n 's/^must-fail /not in the table: must-fail /p' || true
