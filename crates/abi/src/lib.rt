@@ -1,4 +1,4 @@
-// The calls for C and Rust (include/election.h): those of `network`, `election` and `snapshot`, with a plain struct as the answer.
+// The calls for C and Rust (include/election.h): those of `lent`, `election` and `image_snapshot`, with a plain struct as the answer.
 // Every call takes anything; its contract is the equation of the call that it makes.
 ghost use mathlib.Core.Path.{_≡_};
 ghost use lib.Count.{ones};

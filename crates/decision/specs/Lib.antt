@@ -1,3 +1,2 @@
--- Definitions that the contracts of `decision` cite; the meaning of each is in `protocol`.
-pub mod After
+-- Every definition that `decision` adds serves its leaves and their callers' proofs; the meaning of each is in `protocol`.
 pub mod inner

@@ -1,2 +1,3 @@
 -- Definitions for the proofs alone: no promise of a crate above cites them.
+pub mod After
 pub mod Bounds

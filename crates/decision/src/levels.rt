@@ -8,7 +8,7 @@ ghost use Rattle.nodeset.specs.NodeSet.{member};
 ghost use Rattle.protocol.specs.Network.{Node};
 ghost use Rattle.protocol.specs.Rules.{ofLevel, larger, largest, deltas, smaller, smallest};
 ghost use Rattle.tables.specs.Tables.{width};
-ghost use Rattle.decision.specs.After.{seen};
+ghost use Rattle.decision.specs.inner.After.{seen};
 use height::Height;
 use height::ReferenceLevel;
 use height::Time;

@@ -11,7 +11,7 @@ ghost use Rattle.protocol.specs.Holds.{leastDelta, greatestDelta};
 ghost use Rattle.protocol.specs.Network.{Node};
 ghost use Rattle.protocol.specs.Step.{heightAfter};
 ghost use Rattle.tables.specs.Tables.{width};
-ghost use Rattle.decision.specs.After.{seen, afterRule, sendsTo};
+ghost use Rattle.decision.specs.inner.After.{seen, afterRule, sendsTo};
 ghost use Rattle.decision.specs.inner.Bounds.{NegatedAfter, AdoptsNode};
 use super::After;
 use super::Decision;

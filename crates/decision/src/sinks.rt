@@ -10,7 +10,7 @@ ghost use Rattle.nodeset.specs.NodeSet.{member};
 ghost use Rattle.protocol.specs.Network.{Node};
 ghost use Rattle.protocol.specs.Sink.{sink};
 ghost use Rattle.tables.specs.Tables.{width};
-ghost use Rattle.decision.specs.After.{seen};
+ghost use Rattle.decision.specs.inner.After.{seen};
 use height::Height;
 
 // The height of w as u sees it, where `view` is its view of v.

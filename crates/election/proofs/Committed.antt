@@ -10,7 +10,7 @@ use lib.ListN.{length}
 use Rattle.basics.specs.Functions.{update}
 use Rattle.basics.proofs.FunctionsLaws.{update-at}
 use Rattle.basics.proofs.Tests.{equal?}
-use Rattle.decision.specs.After.{seen, sendsTo}
+use Rattle.decision.specs.inner.After.{seen, sendsTo}
 use Rattle.decision.specs.declared.Decision.{Decision}
 use Rattle.height.specs.declared.Height.{Height}
 use Rattle.nodeset.specs.NodeSet.{member, setOf}

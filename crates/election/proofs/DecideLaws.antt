@@ -8,7 +8,7 @@ use mathlib.Core.Path.{_≡_, refl, sym, ap, _∙_}
 use lib.ListN.{length}
 use lib.Pow.{pow-mono}
 use borrow.Author.Tests.{lt-ltb}
-use Rattle.decision.specs.After.{seen}
+use Rattle.decision.specs.inner.After.{seen}
 use Rattle.decision.specs.inner.Bounds.{AdoptsNode}
 use Rattle.height.specs.Clock.{lastTime, saidMoved, clockAfter}
 use Rattle.height.specs.Height.{zeroHeight}

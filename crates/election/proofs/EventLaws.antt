@@ -9,7 +9,7 @@ use lib.Dec.{eqb, leb}
 use borrow.Author.Tests.{ne-eqb, not-true, leb-true, eqb-false}
 use Rattle.basics.proofs.FunctionsLaws.{update-self}
 use Rattle.basics.proofs.Tests.{and-left, and-right}
-use Rattle.decision.specs.After.{seen}
+use Rattle.decision.specs.inner.After.{seen}
 use Rattle.height.specs.Height.{zeroHeight}
 use Rattle.nodeset.specs.NodeSet.{member}
 use Rattle.protocol.specs.Holds.{isEmpty}

@@ -11,7 +11,7 @@ use lib.Dec.{ltb}
 use lib.ListN.{length}
 use lib.Signed.{mag}
 use borrow.Author.Tests.{ltb-true, le-ltb}
-use Rattle.decision.specs.After.{seen, afterRule, sendsTo}
+use Rattle.decision.specs.inner.After.{seen, afterRule, sendsTo}
 use Rattle.decision.specs.declared.After.the-variants.{New, TooDeep}
 use Rattle.decision.specs.declared.After.{After}
 use Rattle.decision.specs.declared.Decision.{Decision}

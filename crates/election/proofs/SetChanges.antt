@@ -10,7 +10,7 @@ use borrow.Author.Tests.{eq-eqb, ne-eqb, eqb-true}
 use Rattle.basics.specs.Functions.{update}
 use Rattle.basics.proofs.FunctionsLaws.{update-at, update-off}
 use Rattle.basics.proofs.Tests.{not-true-is-false, equal?, and-left}
-use Rattle.decision.specs.After.{sendsTo}
+use Rattle.decision.specs.inner.After.{sendsTo}
 use Rattle.nodeset.specs.NodeSet.{member, setOf, sameNode, inEither, inButNot}
 use Rattle.nodeset.proofs.Members.{member-setOf-all, setOf-within, setOf-more}
 use Rattle.protocol.specs.Network.{Node}

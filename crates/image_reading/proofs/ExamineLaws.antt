@@ -11,7 +11,8 @@ use Rattle.lent.specs.Check.{firstFault}
 use Rattle.refusal.specs.Refusal.{why, whyOf}
 use Rattle.refusal.specs.declared.Refusal.{Refusal}
 use Rattle.refusal.specs.declared.Why.{Why}
-use Rattle.image_reading.specs.Examine.{Walkable, afterWalk, examined}
+use Rattle.image_reading.specs.Examine.{afterWalk, examined}
+use Rattle.image_reading.specs.inner.Cells.{Walkable}
 use Rattle.image_reading.specs.Walk.{walk, endsAt}
 use Rattle.image_reading.specs.declared.Walk.the-variants.{At, Refused}
 use Rattle.image_reading.specs.declared.Walk.{Walk}

@@ -23,8 +23,7 @@ use Rattle.tables.specs.Tables.{cellWidth}
 use Rattle.tables.proofs.RecordsLaws.{length-cell}
 use Rattle.tables.proofs.RowsLaws.{row-fits}
 use Rattle.tables.proofs.RowsMore.{rows-same}
-use Rattle.image_reading.specs.Examine.{Walkable}
-use Rattle.image_reading.specs.inner.Cells.{cellIn, cellBehind, ChannelIn, ChannelsIn}
+use Rattle.image_reading.specs.inner.Cells.{cellIn, cellBehind, ChannelIn, ChannelsIn, Walkable}
 
 -- ---- the nodes' records
 pub node-inside : {h d n : ℕ} {xs : List ℕ} → Walkable h d n (unpacked xs) → (i : ℕ) → i < n → Inside xs (h + i * nodeWidth d n) (nodeWidth d n)

@@ -15,7 +15,7 @@ use Rattle.image.proofs.Bounds.{nodes-small}
 use Rattle.image.proofs.PlaceLaws.{channel-on, channels-on, start-in, walked-le}
 use Rattle.protocol.specs.Network.{Node, Two}
 use Rattle.refusal.specs.declared.Refusal.the-variants.{Fault, BadEnd}
-use Rattle.image_reading.specs.Examine.{Walkable}
+use Rattle.image_reading.specs.inner.Cells.{Walkable}
 use Rattle.image_reading.specs.Walk.{channelStep, channelsFromWalk, channelsWalk, walk}
 use Rattle.image_reading.specs.declared.Walk.the-variants.{At, Refused}
 use Rattle.image_reading.proofs.Steps.{Near, Went, went, steps-go, Stepped, channel-stepped}

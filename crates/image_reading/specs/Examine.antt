@@ -1,12 +1,10 @@
 -- All checks of an image behind its header, in document 01's order: the walk (2 or 12), left bytes and pad (12), contents (2).
 -- Contents are those of the tables that the image's records make: the first fault, u ascending, then v ascending.
-use Prim.Native.Nat.{ℕ, _≤_, _<_, _^_}
+use Prim.Native.Nat.{ℕ}
 use mathlib.Core.Bool.{cond}
 use mathlib.Core.List.{List}
-use lib.ListN.{length}
-use Rattle.image.specs.Places.{fieldIn, channelPlace, imageEnd, tablesIn}
+use Rattle.image.specs.Places.{tablesIn}
 use Rattle.lent.specs.Check.{firstFault}
-use Rattle.protocol.specs.Network.{Two, capacity}
 use Rattle.refusal.specs.Refusal.{why, whyOf}
 use Rattle.refusal.specs.declared.Why.{Why}
 use Rattle.image_reading.specs.Walk.{walk, endsAt}
@@ -19,9 +17,3 @@ afterWalk h d n l (Refused r) = whyOf r
 
 unfoldable pub examined : ℕ → ℕ → ℕ → List ℕ → Why
 examined h d n l = afterWalk h d n l (walk h d n l)
-
--- what an accepted walk shows: every channel's count is at most 8, and all stands inside the image
-pub record Walkable (h d n : ℕ) (l : List ℕ) : Type 0 where
-  pub inside : imageEnd h d n l ≤ length l
-  pub small : imageEnd h d n l < 2 ^ 30
-  pub few : (u v : ℕ) → Two n u v → fieldIn l (channelPlace h d n l u v) 4 ≤ capacity

@@ -7,8 +7,7 @@ ghost use Rattle.image.specs.Places.{channelNext, channelsNext, tablesIn};
 ghost use Rattle.image.specs.inner.Parts.{Depth};
 ghost use Rattle.tables.specs.Rows.{rows};
 ghost use Rattle.tables.specs.Tables.{width, cellWidth};
-ghost use Rattle.image_reading.specs.Examine.{Walkable};
-ghost use Rattle.image_reading.specs.inner.Cells.{cellIn, cellBehind, ChannelIn, ChannelsIn};
+ghost use Rattle.image_reading.specs.inner.Cells.{cellIn, cellBehind, ChannelIn, ChannelsIn, Walkable};
 
 // Every row.
 pub fn read_rows(image: &[u8], h: usize, depth: u8, n: u32, nodes: &mut [u32])

@@ -10,7 +10,8 @@ use lib.ListN.{length, drop}
 use Rattle.basics.proofs.Tests.{Choice, yes!, no!, choice, and-left, and-right, clash}
 use Rattle.bits.specs.Bits.{field, number, unpacked}
 use Rattle.image.specs.Places.{imageEnd, tablesIn}
-use Rattle.image_reading.specs.Examine.{Walkable, afterWalk, examined}
+use Rattle.image_reading.specs.Examine.{afterWalk, examined}
+use Rattle.image_reading.specs.inner.Cells.{Walkable}
 use Rattle.image_reading.specs.Header.{fieldsOf, headerHolds, headerOf}
 use Rattle.image_reading.specs.Walk.{walk, endsAt}
 use Rattle.image_reading.specs.declared.Walk.the-variants.{At, Refused}

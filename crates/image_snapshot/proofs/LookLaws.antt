@@ -17,7 +17,8 @@ use Rattle.image.specs.inner.Parts.{Inside}
 use Rattle.image.proofs.PlaceLaws.{node-in, start-in}
 use Rattle.image_reader.specs.Fields.{standsIn}
 use Rattle.image_reader.specs.Record.{recordIn, nodeInside, nodeOn}
-use Rattle.image_reading.specs.Examine.{Walkable, examined}
+use Rattle.image_reading.specs.Examine.{examined}
+use Rattle.image_reading.specs.inner.Cells.{Walkable}
 use Rattle.image_reading.specs.Header.{saidHeader, headerOf}
 use Rattle.image_reading.specs.declared.Fields.{Fields}
 use Rattle.image_reading.specs.declared.Header.the-variants.{Good, Refused}

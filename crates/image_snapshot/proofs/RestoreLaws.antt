@@ -10,7 +10,8 @@ use types.Run.{OneOf, miss}
 use Rattle.basics.proofs.Tests.{clash}
 use Rattle.bits.specs.Bits.{field, unpacked}
 use Rattle.image.specs.Places.{tablesIn}
-use Rattle.image_reading.specs.Examine.{Walkable, examined}
+use Rattle.image_reading.specs.Examine.{examined}
+use Rattle.image_reading.specs.inner.Cells.{Walkable}
 use Rattle.image_reading.specs.Header.{saidHeader, headerOf}
 use Rattle.image_reading.specs.declared.Fields.{Fields}
 use Rattle.image_reading.specs.declared.Header.the-variants.{Good, Refused}

@@ -6,7 +6,7 @@ ghost use Rattle.bits.specs.Bits.{unpacked};
 ghost use Rattle.image.specs.Places.{nodePlace};
 ghost use Rattle.image.specs.Widths.{headerLength, depthWidth};
 ghost use Rattle.image_reader.specs.Record.{saidNode};
-ghost use Rattle.image_reading.specs.Examine.{Walkable};
+ghost use Rattle.image_reading.specs.inner.Cells.{Walkable};
 ghost use Rattle.protocol.specs.Network.{Node};
 ghost use Rattle.refusal.specs.Outcome.{outcome};
 ghost use Rattle.tables.specs.Tables.{heightSize};

@@ -54,7 +54,7 @@ no-messages : (cell : List ℕ) → count cell ≡ 0 → isEmpty (queue cell) �
 unfolding queue messagesAt
 no-messages cell e = rw e
 
--- ---- the places
+-- ---- the pairs
 
 module _ (n : ℕ) (t : Tables) (words : Words t) (passes : checkOn n t .number ≡ 0) (u : ℕ) (a : Node n u) where
   own : OwnHolds n u (nodeOf n u (t .nodes)) (channelOf n u u (t .channels))

@@ -66,7 +66,7 @@ unfolding cellWords
 unused-zero ms em l =
     ap allZero (drop-append-add (length ms ∷ []) (slotWords 8 ms) (length ms * 8)) ∙ rest-zero 8 ms em l
 
--- ---- the places
+-- ---- the pairs
 
 module _ (n : ℕ) (p : Network) (ok : Storable n p) (u : ℕ) (a : Node n u) where
   row : List ℕ

@@ -34,7 +34,7 @@ pub row-word : (w i : ℕ) (xs : List ℕ) → ((j : ℕ) → getD xs j 0 < 4294
 unfolding rowAt
 row-word w i xs h j l = rw (getD-take w (drop (i * w) xs) j 0 l, getD-drop (i * w) xs j 0) (h (i * w + j))
 
--- ---- the places of tables without a fault
+-- ---- the pairs of tables without a fault
 
 module _ (n : ℕ) (t : Tables) (sound : checkOn n t .number ≡ 0) where
   pub sound-own : (u : ℕ) → Node n u → OwnHolds n u (nodeOf n u (t .nodes)) (channelOf n u u (t .channels))

@@ -1,5 +1,5 @@
 -- Refusals 1 and 2: the sizes of the tables, then the first pair at which their words break a rule of "What a station holds".
--- The test of one pair is `placeIn` of the crate `places`.
+-- The test of one pair is `pairSound` of the crate `pairs`.
 use Prim.Native.Nat.{ℕ, zero, suc}
 use mathlib.Core.Bool.{Bool, cond}
 use lib.Dec.{eqb}
@@ -22,7 +22,7 @@ pairAt n t u v = pairSound n u v (nodeOf n u (t .nodes)) (channelOf n u v (t .ch
 
 -- ---- the first fault, u ascending, then v ascending
 
--- in row u, from v on, k places
+-- in row u, from v on, k pairs
 unfoldable pub faultInRow : (ℕ → ℕ → Bool) → ℕ → ℕ → ℕ → Why
 faultInRow holds u v zero = why 0 0 0
 faultInRow holds u v (suc k) = let rest = faultInRow holds u (suc v) k in cond (holds u v) rest (why 2 u v)
@@ -30,7 +30,7 @@ faultInRow holds u v (suc k) = let rest = faultInRow holds u (suc v) k in cond (
 abbrev pub orElse : Why → Why → Why
 orElse s rest = cond (eqb (s .number) 0) rest s
 
--- from row u on, k rows of n places
+-- from row u on, k rows of n pairs
 unfoldable pub faultFrom : (ℕ → ℕ → Bool) → ℕ → ℕ → ℕ → Why
 faultFrom holds n u zero = why 0 0 0
 faultFrom holds n u (suc k) = let rest = faultFrom holds n (suc u) k in orElse (faultInRow holds u 1 n) rest

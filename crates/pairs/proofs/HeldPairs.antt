@@ -1,4 +1,4 @@
--- What a place that passes the test shows, one fact for each rule of "What a station holds".
+-- What a pair that passes the test shows, one fact for each rule of "What a station holds".
 use Prim.Native.Nat.{ℕ, _+_, _*_, _≤_}
 use mathlib.Core.Bool.{Bool, true, _&&_, _||_}
 use mathlib.Core.List.{List}

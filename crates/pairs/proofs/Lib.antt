@@ -1,3 +1,3 @@
--- Laws of the test of one place.
+-- Laws of the test of one pair.
 pub mod PairLaws
 pub mod HeldPairs

@@ -1,4 +1,4 @@
--- What the code tests at a place: a node in a word, the messages of a cell one by one, the zero words after them.
+-- What the code tests for a pair: a node in a word, the messages of a cell one by one, the zero words after them.
 use Prim.Native.Nat.{ℕ, zero, suc, _+_, _-_, _*_, _/_, _%_, _^_, _≤_, _<_}
 use native.Mathlib.Omega.{arith}
 use mathlib.Core.Bool.{true, false, _&&_, _||_}

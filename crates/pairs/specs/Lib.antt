@@ -1,2 +1,2 @@
--- The test of one place of the lent tables.
+-- The test of what the lent tables hold for one pair.
 pub mod Pair

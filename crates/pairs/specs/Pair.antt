@@ -1,5 +1,5 @@
--- The place of a pair u, v in the lent tables (document 01, "Returned numbers"): its words break no rule of "What a station holds".
--- The place u u covers both sets, the own height and the unused cell (a clock may be any word); the place u v the view of v and channel u to v.
+-- What the lent tables hold for a pair u, v (document 01, "Returned numbers"): its words break no rule of "What a station holds".
+-- The pair u, u has both sets, the own height and the unused cell (a clock may be any word); the pair u, v the view of v and channel u to v.
 use Prim.Native.Nat.{ℕ, _+_, _-_, _*_}
 use mathlib.Core.Bool.{Bool, cond, _&&_, _||_}
 use mathlib.Core.List.{List}

@@ -1,4 +1,4 @@
-// One place of the lent tables: the words that belong to a pair u, v, as a test.
+// What the lent tables hold for a pair u, v, as a test.
 // These are leaves: only our crates call them, with the bounds that `requires` states.
 ghost use mathlib.Core.Path.{_≡_};
 ghost use Prim.Native.Nat.{_≤_};
@@ -19,7 +19,7 @@ fn is_member(word: u32, v: u32) -> bool
     nodeset::contains((word % 65536) as u16, v)
 }
 
-// The place u u.
+// The pair u, u.
 pub fn own_sound(n: u32, u: u32, row: &[u32], cell: &[u32]) -> bool
     requires { ⌜ (n ≤ 16) × Node n u × (length (now row) ≡ width n) × (length (now cell) ≡ cellWidth) ⌝ }
     ensures { λ r. ⌜ r ≡ ownSound n u (now (row .entry)) (now (cell .entry)) ⌝ }
@@ -74,7 +74,7 @@ pub fn channel_sound(n: u32, u: u32, v: u32, row: &[u32], cell: &[u32]) -> bool
     fits & held & tables::cells::is_unused_after(cell, count)
 }
 
-// The place of the pair u, v.
+// The pair u, v.
 pub fn pair_sound(n: u32, u: u32, v: u32, row: &[u32], cell: &[u32]) -> bool
     requires { ⌜ (n ≤ 16) × Node n u × Node n v × (length (now row) ≡ width n) × (length (now cell) ≡ cellWidth) ⌝ }
     ensures { λ r. ⌜ r ≡ pairSound n u v (now (row .entry)) (now (cell .entry)) ⌝ }

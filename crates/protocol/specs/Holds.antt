@@ -1,5 +1,5 @@
 -- The rules of document 01, "What a station holds", as tests; refusal 2 names the first pair at which one fails.
--- The place u u covers the clock, both sets and the own height; the place u v the view of v and the channel u to v.
+-- The pair u, u has the clock, both sets and the own height; the pair u, v the view of v and the channel u to v.
 use Prim.Native.Nat.{ℕ}
 use mathlib.Core.Bool.{Bool, true, false, not, cond, _&&_, _||_}
 use mathlib.Core.List.{List, [], _∷_}
@@ -56,7 +56,7 @@ abbrev pub isEmpty : List Message → Bool
 isEmpty [] = true
 isEmpty (m ∷ ms) = false
 
--- the place u u; no channel leads from a node to itself
+-- the pair u, u; no channel leads from a node to itself
 unfoldable pub ownHolds : ℕ → Network → ℕ → Bool
 ownHolds n p u =
     leb (p .clock u) lastTime && setsHold n u (p .neighbors u) (p .forming u) && heightHolds n u (p .height u u)

@@ -3,7 +3,7 @@ use Prim.Native.Nat.{ℕ, _<_, _^_, _≤_}
 use mathlib.Core.Bool.{false}
 use mathlib.Core.List.{List}
 use mathlib.Core.Path.{_≡_}
-use Rattle.decision.specs.After.{seen}
+use Rattle.decision.specs.inner.After.{seen}
 use Rattle.decision.specs.declared.Decision.{Decision}
 use Rattle.decision.specs.inner.Bounds.{AdoptsNode}
 use Rattle.height.specs.Clock.{lastTime}

@@ -6,8 +6,8 @@ use mathlib.Core.List.{List, []}
 use mathlib.Core.Path.{_≡_}
 use lib.Dec.{eqb}
 use lib.ListN.{length}
-use Rattle.image.specs.Places.{fieldIn, channelFrom, walked, channelNext, channelsNext}
-use Rattle.protocol.specs.Network.{capacity}
+use Rattle.image.specs.Places.{fieldIn, channelFrom, walked, channelNext, channelsNext, imageEnd, channelPlace}
+use Rattle.protocol.specs.Network.{capacity, Two}
 use Rattle.tables.specs.Records.{cellWords}
 
 -- the cell of channel u to v, which starts at q
@@ -29,3 +29,9 @@ pub record ChannelsIn (d n : ℕ) (l : List ℕ) (u q : ℕ) : Type 0 where
   pub few : (j : ℕ) → j < n → (u ≡ suc j → ⊥) → fieldIn l (walked (channelNext d l u) j q) 4 ≤ capacity
   pub inside : channelsNext d n l u q ≤ length l
   pub small : channelsNext d n l u q < 2 ^ 30
+
+-- what an accepted walk shows: every channel's count is at most 8, and all stands inside the image
+pub record Walkable (h d n : ℕ) (l : List ℕ) : Type 0 where
+  pub inside : imageEnd h d n l ≤ length l
+  pub small : imageEnd h d n l < 2 ^ 30
+  pub few : (u v : ℕ) → Two n u v → fieldIn l (channelPlace h d n l u v) 4 ≤ capacity

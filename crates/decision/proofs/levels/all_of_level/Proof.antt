@@ -4,7 +4,7 @@ use native.Mathlib.Omega.{arith}
 use mathlib.Core.Path.{sym, _∙_}
 use Rattle.nodeset.specs.NodeSet.{member}
 use Rattle.protocol.specs.Rules.{ofLevel}
-use Rattle.decision.specs.After.{seen}
+use Rattle.decision.specs.inner.After.{seen}
 use Rattle.decision.proofs.Descent.{Passed, rest-start, passed-one, passed-not, passed-all}
 use Rattle.decision.proofs.levels.all_of_level.Statement.{statement}
 use Rattle.decision.proofs.levels.all_of_level.Tie as tie

@@ -9,7 +9,7 @@ use Rattle.height.specs.declared.Height.{Height}
 use Rattle.height.specs.declared.ReferenceLevel.{ReferenceLevel}
 use Rattle.nodeset.specs.NodeSet.{member}
 use Rattle.protocol.specs.Rules.{larger, largest}
-use Rattle.decision.specs.After.{seen}
+use Rattle.decision.specs.inner.After.{seen}
 use Rattle.decision.proofs.levels.largest_level.Statement.{statement}
 use Rattle.decision.proofs.levels.largest_level.Tie as tie
 

@@ -18,7 +18,7 @@ use Rattle.height.specs.declared.Height.{Height}
 use Rattle.height.specs.declared.ReferenceLevel.{ReferenceLevel}
 use Rattle.nodeset.specs.NodeSet.{member}
 use Rattle.protocol.specs.Rules.{deltas, smaller, smallestFrom, smallest}
-use Rattle.decision.specs.After.{seen}
+use Rattle.decision.specs.inner.After.{seen}
 use Rattle.decision.proofs.Descent.{Rest, rest-start, rest-next, rest-done}
 use Rattle.decision.proofs.levels.smallest_delta.Statement.{statement}
 use Rattle.decision.proofs.levels.smallest_delta.Tie as tie

@@ -3,7 +3,7 @@ use borrow.Author.Needs.{needs}
 use mir.Syntax.{w32}
 use mir.Val.{SFits}
 use mir.Facts.{toZ-ofZ}
-use Rattle.decision.specs.After.{afterRule}
+use Rattle.decision.specs.inner.After.{afterRule}
 use Rattle.decision.proofs.Depths.{below-suc}
 use Rattle.decision.proofs.outcome.adopted.Statement.{statement}
 use Rattle.decision.proofs.outcome.adopted.Tie as tie

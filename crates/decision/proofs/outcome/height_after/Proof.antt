@@ -13,7 +13,7 @@ use Rattle.protocol.specs.declared.Rule.the-variants.{ChannelUp, ElectSelf, Sta
 use Rattle.protocol.specs.declared.Rule.the-variants.{ReflectRefLevel, PropagateLargestRefLevel, AdoptLpIfPriority, Reply}
 use Rattle.protocol.specs.declared.Rule.{Rule}
 use Rattle.protocol.proofs.Rule as declared
-use Rattle.decision.specs.After.{afterRule}
+use Rattle.decision.specs.inner.After.{afterRule}
 use Rattle.decision.specs.declared.After.the-variants.{New}
 use Rattle.decision.proofs.outcome.height_after.Statement.{statement}
 use Rattle.decision.proofs.outcome.height_after.Tie as tie

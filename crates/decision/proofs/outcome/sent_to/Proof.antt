@@ -13,7 +13,7 @@ use Rattle.protocol.specs.declared.Rule.the-variants.{ChannelUp, ElectSelf, Sta
 use Rattle.protocol.specs.declared.Rule.the-variants.{ReflectRefLevel, PropagateLargestRefLevel, AdoptLpIfPriority, Reply}
 use Rattle.protocol.specs.declared.Rule.{Rule}
 use Rattle.protocol.proofs.Rule as declared
-use Rattle.decision.specs.After.{sendsTo}
+use Rattle.decision.specs.inner.After.{sendsTo}
 use Rattle.decision.proofs.outcome.sent_to.Statement.{statement}
 use Rattle.decision.proofs.outcome.sent_to.Tie as tie
 

@@ -6,7 +6,7 @@ use mathlib.Core.Logic.{⊎-elim}
 use mathlib.Core.Path.{sym, _∙_}
 use Rattle.nodeset.specs.NodeSet.{member}
 use Rattle.protocol.specs.Sink.{above, sink}
-use Rattle.decision.specs.After.{seen}
+use Rattle.decision.specs.inner.After.{seen}
 use Rattle.decision.proofs.Descent.{Passed, rest-start, passed-one, passed-not, passed-all}
 use Rattle.decision.proofs.sinks.is_sink.Statement.{statement}
 use Rattle.decision.proofs.sinks.is_sink.Tie as tie
