@@ -1,5 +1,5 @@
 -- The save that a run remembers as the last one that wrote given bytes is exactly that: an accepted save of the list, with what it was made on
--- and the history then, and no accepted save after it wrote the same bytes. Assumes nothing: what the calls are made on is any type.
+-- and the history then, and no accepted save after it wrote the same bytes. What the calls are made on is any type.
 use Prim.Native.Nat.{ℕ}
 use native.Mathlib.Omega.{arith}
 use mathlib.Core.List.{List, [], _∷_, _++_}

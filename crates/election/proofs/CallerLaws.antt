@@ -1,5 +1,5 @@
 -- For any tables of 32-bit words (`Words`, which a slice shows of itself): a refused call changes no word, and an event only
--- its node's row, the channels from it and the one received from. Assumes nothing else.
+-- its node's row, the channels from it and the one received from.
 use Prim.Native.Nat.{ℕ}
 use mathlib.Core.Bool.{true, false, cond}
 use mathlib.Core.List.{List, map, tail}

@@ -1,4 +1,4 @@
-// The end of every event, atExit its rule is chosen: the depth (8), room (9), then everything is written.
+// The end of every event, after its rule is chosen: the depth (8), room (9), then everything is written.
 ghost use mathlib.Core.Path.{_≡_};
 ghost use Prim.Native.Nat.{_*_, _≤_};
 ghost use lib.ListN.{length};
@@ -16,7 +16,7 @@ use height::Height;
 use protocol::Answer;
 use refusal::Refusal;
 
-// u's row atExit the event: its view of v, its own height, the clock and both sets.
+// u's row after the event: its view of v, its own height, the clock and both sets.
 fn write_row(n: u32, u: u32, v: u32, d: Decision, own: Height, row: &mut [u32])
     requires { ⌜ (n ≤ 16) × Node n u × Node n v × (length (now row) ≡ width n) × Negated (d .view .pair .nlts .0) × Negated (own .pair .nlts .0) ⌝ }
     ensures { λ _. ⌜ now (row .exit) ≡ rowAfter (now (row .entry)) u v d own ⌝ }

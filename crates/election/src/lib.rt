@@ -16,14 +16,14 @@ mod events;
 mod finish;
 mod sending;
 
-// The kind of an event: what it does to a channel atEntry it sends.
+// The kind of an event: what it does to a channel before it sends.
 pub enum Kind {
     Raised,
     Dropped,
     Received,
 }
 
-// What is decided of an event atEntry anything is written.
+// What is decided of an event before anything is written.
 pub enum Decided {
     As(Decision),
     Refused(Refusal),

@@ -1,5 +1,5 @@
 -- The bits of an image: header, network, zero bits to the byte's end; its length in bytes; images of records that agree are the same.
--- Assumes nothing but a header of at least 21 bits.
+-- Assumes a header of at least 21 bits.
 use Prim.Native.Nat.{ℕ, zero, suc, _+_, _-_, _*_, _/_, _%_, _^_, _≤_, _<_}
 use native.Mathlib.Nat.{zero-div, zero-mod}
 use native.Mathlib.Omega.{arith}

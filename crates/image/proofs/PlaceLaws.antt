@@ -1,5 +1,5 @@
 -- The places of an image's parts: each starts where the one before it ends, and all end by the image's end.
--- Assumes nothing: l is any list of bits.
+-- l is any list of bits.
 use Prim.Native.Nat.{ℕ, suc, _+_, _-_, _*_, _≤_, _<_}
 use native.Mathlib.Nat.{le-trans, le-of-eq, suc-mul, mul-le-mul-right, zero-add}
 use native.Mathlib.Omega.{arith}

@@ -6,7 +6,7 @@ ghost use Rattle.lent.specs.Check.{saidCheck, pairAt, firstFault};
 use super::Checked;
 use refusal::Refusal;
 
-// The pair of the pair u, v. As `pairs::pair_sound`, but with its parts called here, where the compiler opens them (docs/PERFORMANCE.md).
+// The pair u, v. As `pairs::pair_sound`, but with its parts called here, where the compiler opens them (docs/PERFORMANCE.md).
 fn pair_holds(n: u32, u: u32, v: u32, nodes: &[u32], channels: &[u32]) -> bool
     requires { ⌜ Sized n (given nodes channels) × Node n u × Node n v ⌝ }
     ensures { λ r. ⌜ r ≡ pairAt n (atEntry nodes channels) u v ⌝ }

@@ -1,5 +1,5 @@
 -- Lists of calls one behind the other: what they leave, and that they are fair exactly when both parts are. Without restores they always are.
--- Assumes nothing: what the calls are made on is any type.
+-- What the calls are made on is any type.
 use mathlib.Core.Bool.{Bool, true, false}
 use mathlib.Core.List.{List, [], _∷_, _++_}
 use mathlib.Core.Path.{_≡_, refl}

@@ -28,7 +28,7 @@ atEntry nodes channels = tables (nodes .entry .now) (channels .entry .now)
 abbrev pub atExit : {E F : Type 0} → Both E (RefT (List ℕ)) → Both F (RefT (List ℕ)) → Tables
 atExit nodes channels = tables (nodes .exit .now) (channels .exit .now)
 
--- words of a row atEntry its heights: clock, linked set, forming set
+-- words of a row before its heights: clock, linked set, forming set
 abbrev pub rowHead : ℕ
 rowHead = 3
 

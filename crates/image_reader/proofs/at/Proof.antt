@@ -1,5 +1,5 @@
 -- `image_reader::at` meets its contract: a walk of its MIR, by hand. A number is read from a field of the reader, which is seen at exit as it was passed.
--- Assumes nothing: that the number fits its type is in the struct's relation, at the field's place.
+-- That the number fits its type is in the struct's relation, at the field's place.
 use mathlib.Core.Path.{refl}
 use Prim.Native.Nat.{_<_, _^_}
 use mathlib.Core.List.{[], _∷_}
