@@ -6,7 +6,7 @@ use mathlib.Core.Logic.{inl, inr}
 use mathlib.Core.Path.{_≡_, refl, fun-ext}
 use lib.Dec.{eqb}
 use borrow.Author.Tests.{eq-eqb, ne-eqb}
-use Rattle.basics.specs.Functions.{every, update}
+use Rattle.basics.specs.Functions.{every, everyPair, update}
 use Rattle.basics.proofs.Tests.{Choice, yes!, no!, choice, SameOrNot, equal?, and-left, and-right, and-both, both-equal, clash, not-true-is-false}
 
 -- ---- tests over 1 to n
@@ -24,6 +24,14 @@ pub every-all : (n : ℕ) (p : ℕ → Bool) → ((v : ℕ) → 1 ≤ v → v �
 unfolding every
 every-all zero p h = refl
 every-all (suc n) p h = and-both (h (suc n) (omega arith) (omega arith)) (every-all n p (λ v l k. h v l (omega arith)))
+
+pub every-pair-at : (n : ℕ) (p : ℕ → ℕ → Bool) → everyPair n p ≡ true → (u : ℕ) → 1 ≤ u → u ≤ n → (v : ℕ) → 1 ≤ v → v ≤ n → p u v ≡ true
+unfolding everyPair
+every-pair-at n p h u a b v c d = every-at n (p u) (every-at n (λ x. every n (p x)) h u a b) v c d
+
+pub every-pair-all : (n : ℕ) (p : ℕ → ℕ → Bool) → ((u : ℕ) → 1 ≤ u → u ≤ n → (v : ℕ) → 1 ≤ v → v ≤ n → p u v ≡ true) → everyPair n p ≡ true
+unfolding everyPair
+every-pair-all n p h = every-all n (λ u. every n (p u)) (λ u a b. every-all n (p u) (h u a b))
 
 pub every-false : (n : ℕ) (p : ℕ → Bool) (v : ℕ) → 1 ≤ v → v ≤ n → p v ≡ false → every n p ≡ false
 every-false n p v l k h = not-true-is-false (every n p) (λ e. clash (every-at n p e v l k) h)

@@ -9,6 +9,11 @@ unfoldable pub every : ℕ → (ℕ → Bool) → Bool
 every zero p = true
 every (suc n) p = p (suc n) && every n p
 
+-- at each pair of 1 to n
+unfoldable pub everyPair : ℕ → (ℕ → ℕ → Bool) → Bool
+unfolding every
+everyPair n p = every n (λ u. every n (p u))
+
 -- the test holds of each element
 unfoldable pub all : {A : Type 0} → (A → Bool) → List A → Bool
 all p [] = true

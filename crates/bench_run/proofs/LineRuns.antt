@@ -3,7 +3,8 @@ use Prim.Native.Nat.{ℕ, _+_, _≤_}
 use mathlib.Core.List.{List}
 use mathlib.Core.Path.{_≡_, sym, ap, _∙_}
 use lib.ListN.{length}
-use Rattle.commands.specs.Commands.{saidCommand, commandOf}
+use Rattle.commands.specs.Commands.{commandOf}
+use Rattle.commands.specs.inner.Leaves.{saidCommand}
 use Rattle.commands.specs.declared.Command.the-variants.{Up, Down, Receive, Refused}
 use Rattle.commands.specs.declared.Command.{Command}
 use Rattle.election.specs.StepOn.{stepOn}
@@ -14,7 +15,7 @@ use Rattle.refusal.specs.Refusal.{whyOf}
 use Rattle.refusal.specs.declared.Refusal.{Refusal}
 use Rattle.refusal.proofs.RefusalLaws.{never-0}
 use Rattle.tables.specs.Tables.{Tables}
-use Rattle.text.specs.Text.{poured}
+use Rattle.text.specs.inner.Poured.{poured}
 use Rattle.bench_run.specs.Listing.{saidLine, byEvent}
 use Rattle.bench_run.specs.inner.OnTables.{commandLineOn, afterCommandOn}
 use Rattle.bench_run.proofs.PourLaws.{Poured}

@@ -7,10 +7,11 @@ use native.Mathlib.Omega.{arith}
 use mathlib.Core.List.{List, [], _∷_, _++_, append-assoc, append-nil}
 use mathlib.Core.Path.{_≡_, refl, sym, ap, ap₂, _∙_}
 use lib.ListN.{length, take, drop}
-use Rattle.commands.specs.Commands.{linesOf, toNewline, commandOf}
+use Rattle.commands.specs.Commands.{linesOf, commandOf}
+use Rattle.commands.specs.inner.Leaves.{toNewline}
 use Rattle.commands.proofs.LineLaws.{lines-at, lines-at-end}
 use Rattle.tables.specs.Tables.{Tables}
-use Rattle.text.specs.Text.{poured}
+use Rattle.text.specs.inner.Poured.{poured}
 use Rattle.text.proofs.TextLaws.{length-poured}
 use Rattle.bench_run.specs.inner.OnTables.{commandLineOn, afterCommandOn, eventLinesOn, afterLinesOn}
 use Rattle.bench_run.proofs.PourLaws.{Poured, then}

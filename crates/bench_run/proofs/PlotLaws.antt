@@ -10,7 +10,8 @@ use lib.Dec.{leb, ltb}
 use lib.ListN.{length, take, drop}
 use lib.Seq.{length-take-le}
 use Rattle.basics.proofs.Tests.{clash, Choice, yes!, no!, choice}
-use Rattle.commands.specs.Commands.{linesOf, toNewline, headOf}
+use Rattle.commands.specs.Commands.{linesOf, headOf}
+use Rattle.commands.specs.inner.Leaves.{toNewline}
 use Rattle.commands.proofs.LineLaws.{lines-next}
 use Rattle.lent.specs.Fresh.{freshOn}
 use Rattle.lent.proofs.CheckLaws.{is-sized}
@@ -19,9 +20,10 @@ use Rattle.refusal.specs.Outcome.{Outcome, accepted, outcome, putFront, refused
 use Rattle.refusal.specs.Refusal.{why}
 use Rattle.refusal.specs.declared.Why.{Why}
 use Rattle.tables.specs.Load.{tablesOf}
-use Rattle.tables.specs.Tables.{Tables, tables, Sized}
+use Rattle.tables.specs.Tables.{Tables, tables}
+use Rattle.tables.specs.inner.Fit.{Sized}
 use Rattle.tables.proofs.Sizes.{rows-small, cells-small}
-use Rattle.text.specs.Text.{poured}
+use Rattle.text.specs.inner.Poured.{poured}
 use Rattle.text.proofs.TextLaws.{poured-all}
 use Rattle.bench_run.specs.Listing.{eventHead, stationHead, badPlot, eventLines, afterLines, stationLines, plotListing, headed, listing}
 use Rattle.bench_run.specs.Run.{runOn}

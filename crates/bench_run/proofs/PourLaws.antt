@@ -7,7 +7,8 @@ use mathlib.Core.Path.{_≡_, sym, ap, _∙_}
 use lib.ListN.{length, length-append}
 use lib.Count.{ones}
 use Rattle.protocol.specs.Answer.{Said}
-use Rattle.text.specs.Text.{poured, decimal}
+use Rattle.text.specs.Text.{decimal}
+use Rattle.text.specs.inner.Poured.{poured}
 use Rattle.text.proofs.TextLaws.{poured-append, length-decimal-le}
 use Rattle.bench_run.specs.Listing.{eventLine, saidLine, stationLine}
 

@@ -11,7 +11,7 @@ use Rattle.tables.specs.Row.{clockIn, heightIn}
 use Rattle.tables.specs.Rows.{rows}
 use Rattle.tables.specs.Tables.{tables, nodeOf}
 use Rattle.tables.proofs.RowsMore.{rows-more}
-use Rattle.text.specs.Text.{poured}
+use Rattle.text.specs.inner.Poured.{poured}
 use Rattle.bench_run.specs.Listing.{stationLine}
 use Rattle.bench_run.specs.inner.OnTables.{stationLineOn}
 use Rattle.bench_run.proofs.PourLaws.{Poured, then, station-le}

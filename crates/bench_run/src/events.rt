@@ -4,7 +4,7 @@ ghost use Prim.Native.Nat.{_+_, _^_, _≤_, _<_};
 ghost use lib.ListN.{length, drop};
 ghost use Rattle.commands.specs.Commands.{linesOf, commandOf};
 ghost use Rattle.tables.specs.Tables.{atEntry, atExit};
-ghost use Rattle.text.specs.Text.{poured};
+ghost use Rattle.text.specs.inner.Poured.{poured};
 ghost use Rattle.bench_run.specs.inner.OnTables.{commandLineOn, afterCommandOn, eventLinesOn, afterLinesOn};
 use commands::Command;
 use protocol::Answer;

@@ -4,7 +4,8 @@ ghost use mathlib.Core.Path.{_≡_};
 ghost use Prim.Native.Nat.{_+_, _^_, _≤_, _<_};
 ghost use lib.ListN.{length};
 ghost use Rattle.protocol.specs.Answer.{said};
-ghost use Rattle.text.specs.Text.{poured, decimal};
+ghost use Rattle.text.specs.Text.{decimal};
+ghost use Rattle.text.specs.inner.Poured.{poured};
 ghost use Rattle.bench_run.specs.Listing.{eventHead, stationHead, badPlot, eventLine, saidLine, stationLine};
 use protocol::Answer;
 

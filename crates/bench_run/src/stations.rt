@@ -5,7 +5,7 @@ ghost use Prim.Native.Nat.{_+_, _*_, _^_, _≤_, _<_};
 ghost use lib.ListN.{length};
 ghost use Rattle.protocol.specs.Network.{Node};
 ghost use Rattle.tables.specs.Tables.{tables, width};
-ghost use Rattle.text.specs.Text.{poured};
+ghost use Rattle.text.specs.inner.Poured.{poured};
 ghost use Rattle.bench_run.specs.inner.OnTables.{stationLineOn, stationLinesOn};
 
 // Node u's line.

@@ -7,7 +7,8 @@ use mathlib.Core.Path.{_≡_, refl, sym, ap, ap₂, _∙_}
 use mathlib.Core.List.{List, [], _∷_, _++_, append-assoc}
 use lib.ListN.{length, take, drop, getD, set, length-append, length-take, length-drop, take-append-drop}
 use lib.Seq.{take-append-le, drop-append-le, take-append-add, drop-append-add, take-at, drop-at, take-add, drop-drop, drop-cons, set-split, drop-nil, take-nil}
-use Rattle.bits.specs.Bits.{bits, number, unpacked, packed, over, field, written}
+use Rattle.bits.specs.Bits.{bits, number, unpacked, packed, field}
+use Rattle.bits.specs.inner.Written.{over, written}
 use Rattle.bits.proofs.Numbers.{Below, below-nil, below-append, below-take, below-drop, below-bits}
 use Rattle.bits.proofs.Numbers.{length-bits, take-bits, drop-bits, number-bits, number-append, number-lt, bits-number}
 use Rattle.bits.proofs.Overlay.{length-over, over-tail, over-before, over-after, over-over, over-own, below-over}

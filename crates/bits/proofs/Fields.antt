@@ -7,7 +7,8 @@ use mathlib.Core.Path.{_≡_, refl, sym, ap, ap₂, _∙_}
 use mathlib.Core.List.{List, [], _∷_, _++_, append-assoc, append-nil}
 use lib.ListN.{length, take, drop, getD, set, length-append, length-take, length-drop, take-append-drop}
 use lib.Seq.{take-at, drop-at, take-suc, drop-cons, drop-drop, take-add, set-at}
-use Rattle.bits.specs.Bits.{bits, number, unpacked, field, written, total, spread, gathered}
+use Rattle.bits.specs.Bits.{bits, number, unpacked, field, spread, gathered}
+use Rattle.bits.specs.inner.Written.{written, total}
 use Rattle.bits.proofs.Bytes.{below-unpacked, length-unpacked, written-tail, written-own}
 use Rattle.bits.proofs.Numbers.{Below, below-nil, below-append, below-bits, below-take, below-drop, length-bits, number-bits, bits-number}
 

@@ -6,7 +6,7 @@ use mathlib.Core.Path.{_≡_, sym, ap, ap₂, _∙_}
 use mathlib.Core.List.{List, _++_, append-assoc}
 use lib.ListN.{length, take, drop, length-append, length-take, length-drop, take-append-drop}
 use lib.Seq.{take-append-le, drop-append-le, drop-append-add, take-at, drop-at, take-add, drop-drop, take-take}
-use Rattle.bits.specs.Bits.{over}
+use Rattle.bits.specs.inner.Written.{over}
 use Rattle.bits.proofs.Numbers.{Below, below-append, below-take, below-drop}
 
 -- ---- writing over a list

@@ -8,7 +8,8 @@ use lib.ListN.{length, getD, set, length-set, drop-of-length-le}
 use lib.Pow.{pow-pos, pow-add, shl-exact, shl-shr, shr-shr, shr-lt, shr-le, pow-mono, mod-pow-add, mod-mod-pow}
 use lib.Pow
 use lib.Arith.{digits-lt}
-use Rattle.bits.specs.Bits.{bits, unpacked, over, field, written}
+use Rattle.bits.specs.Bits.{bits, unpacked, field}
+use Rattle.bits.specs.inner.Written.{over, written}
 use Rattle.bits.proofs.Bytes.{field-byte, field-add, field-lt, written-written, put-get}
 use Rattle.bits.proofs.Numbers.{add-mul-assoc, length-bits, bits-add, bits-mod, bits-cong, Below, below-bits, below-set}
 use Rattle.bits.proofs.Turns.{put-turn, put-none, put-all}

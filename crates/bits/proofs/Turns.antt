@@ -9,7 +9,8 @@ use lib.ListN.{length, take, drop, getD, set}
 use lib.Pow.{pow-pos, pow-add, shr-shr, shl-exact, pow-mono, shr-lt}
 use lib.Pow
 use lib.Arith.{digits-lt}
-use Rattle.bits.specs.Bits.{bits, number, unpacked, packed, over, field, written}
+use Rattle.bits.specs.Bits.{bits, number, unpacked, packed, field}
+use Rattle.bits.specs.inner.Written.{over, written}
 use Rattle.bits.proofs.Bytes.{length-unpacked, packed-unpacked, unpacked-byte, unpacked-set, field-byte, field-add, field-lt}
 use Rattle.bits.proofs.Numbers.{length-bits, bits-add, take-bits, drop-bits, bits-mod, bits-cong, Below}
 use Rattle.bits.proofs.Overlay.{over-over, over-own, over-within}

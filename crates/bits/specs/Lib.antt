@@ -1,2 +1,3 @@
 -- Bits of bytes, and fields in them.
 pub mod Bits
+pub mod inner

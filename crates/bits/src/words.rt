@@ -3,7 +3,8 @@
 ghost use mathlib.Core.Path.{_≡_};
 ghost use Prim.Native.Nat.{_+_, _-_, _*_, _/_, _%_, _^_, _≤_, _<_};
 ghost use lib.ListN.{length};
-ghost use Rattle.bits.specs.Bits.{bits, field, written};
+ghost use Rattle.bits.specs.Bits.{bits, field};
+ghost use Rattle.bits.specs.inner.Written.{written};
 
 fn long(b: u8) -> u64
     ensures { λ r. ⌜ r ≡ b ⌝ }

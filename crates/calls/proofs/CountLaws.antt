@@ -5,7 +5,8 @@ use native.Mathlib.Omega.{arith}
 use mathlib.Core.Bool.{Bool, true, false}
 use mathlib.Core.Path.{_≡_, refl}
 use Rattle.basics.proofs.Tests.{clash}
-use Rattle.nodeset.specs.NodeSet.{digit, sizeOf}
+use Rattle.nodeset.specs.NodeSet.{digit}
+use Rattle.nodeset.specs.inner.Operations.{sizeOf}
 use Rattle.protocol.specs.Network.{Node}
 
 digit-le : (a b : Bool) → (a ≡ true → b ≡ true) → digit a ≤ digit b

@@ -7,11 +7,11 @@ use mathlib.Core.List.{[]}
 use mathlib.Core.Logic.{inl, inr}
 use mathlib.Core.Path.{_≡_, refl, sym, ap, _∙_, fun-ext}
 use lib.ListN.{length}
-use Rattle.basics.proofs.FunctionsLaws.{every-at, every-all}
+use Rattle.basics.proofs.FunctionsLaws.{every-pair-at, every-pair-all}
 use Rattle.basics.proofs.Tests.{clash, SameOrNot, equal?, and-left, and-right}
 use Rattle.protocol.specs.Holds.{isEmpty}
 use Rattle.protocol.specs.Network.{Node, Two, Network, upTo, own}
-use Rattle.protocol.specs.Quiet.{pairQuiet, nodeQuiet, quiet}
+use Rattle.protocol.specs.Quiet.{pairQuiet, quiet}
 use Rattle.protocol.proofs.Channels.{no-length, is-empty}
 use Rattle.protocol.proofs.Soundness.{diagonal}
 use Rattle.calls.specs.Component.{Quiescent, OneLeader}
@@ -52,12 +52,11 @@ beq-refl false = refl
 
 -- for a history that tells what the network holds
 pub quiet-quiescent : (n : ℕ) (p : Network) (h : History) → Told h p → quiet n p ≡ true → Quiescent n (upIn h) (waiting h)
-unfolding quiet nodeQuiet pairQuiet
+unfolding quiet pairQuiet
 quiet-quiescent n p h told e = record { empty = empty; paired = paired }
   where
     at : (u v : ℕ) → Two n u v → pairQuiet p u v ≡ true
-    at u v t =
-        every-at n (pairQuiet p u) (every-at n (nodeQuiet n p) e u (t .one .low) (t .one .high)) v (t .other .low) (t .other .high)
+    at u v t = every-pair-at n (pairQuiet p) e u (t .one .low) (t .one .high) v (t .other .low) (t .other .high)
 
     empty : (u v : ℕ) → Two n u v → waiting h u v ≡ 0
     empty u v t =
@@ -74,10 +73,9 @@ module _ (n : ℕ) (s : State) (g : Good n s) where
   p = s .network
 
   pub quiescent-quiet : Quiescent n (upIn (s .history)) (waiting (s .history)) → quiet n (s .network) ≡ true
-  unfolding quiet nodeQuiet pairQuiet
+  unfolding quiet pairQuiet
   quiescent-quiet q =
-      every-all n (nodeQuiet n p) (λ u l k. every-all n (pairQuiet p u) (λ v i j.
-      go u v (record { low = l; high = k }) (record { low = i; high = j }) (equal? u v)))
+      every-pair-all n (pairQuiet p) (λ u l k v i j. go u v (record { low = l; high = k }) (record { low = i; high = j }) (equal? u v))
     where
       go : (u v : ℕ) → Node n u → Node n v → SameOrNot u v → pairQuiet p u v ≡ true
       go u v a b (inl e) = rw (← e, diagonal n p (g .fits) u) (beq-refl (upTo p u u))

@@ -15,7 +15,7 @@ use Rattle.basics.proofs.Tests.{clash, Choice, yes!, no!, choice, equal?}
 use Rattle.height.specs.Height.{heightKey, levelKey, pairKey}
 use Rattle.height.specs.Order.{before, same}
 use Rattle.height.proofs.OrderLaws.{before-total, before-irrefl, before-trans, same-refl}
-use Rattle.nodeset.specs.NodeSet.{sizeOf}
+use Rattle.nodeset.specs.inner.Operations.{sizeOf}
 use Rattle.protocol.specs.Network.{Node, Two, Network, upTo, own}
 use Rattle.protocol.specs.Sink.{above, sink}
 use Rattle.protocol.proofs.Channels.{no-length}

@@ -18,7 +18,8 @@ use Rattle.refusal.specs.Outcome.{Outcome}
 use Rattle.calls.specs.Component.{Quiescent, OneLeader}
 use Rattle.calls.specs.History.{upIn, waiting, Told, State, advance}
 use Rattle.calls.specs.Run.{Call, Saved, RunState, startOfRun, savedAt, lastSave, steppedTo, keeping}
-use Rattle.calls.specs.Run.{act, Fair, fairEvent, fairSave, fairSaved, fairRefused, meant}
+use Rattle.calls.specs.Run.{act, Fair, fairEvent, fairSave, fairSaved, fairRefused}
+use Rattle.calls.specs.inner.Meant.{meant}
 use Rattle.calls.proofs.Good.{Good, good-started, good-advance}
 use Rattle.calls.proofs.Leaders.{quiet-leader}
 use Rattle.calls.proofs.SavesLaws.{found}

@@ -2,3 +2,4 @@
 pub mod History
 pub mod Component
 pub mod Run
+pub mod inner

@@ -6,12 +6,9 @@ use mathlib.Core.List.{List, [], _∷_}
 use mathlib.Core.Path.{_≡_}
 use lib.Dec.{eqb}
 use Rattle.basics.specs.Functions.{afterAll}
-use Rattle.protocol.specs.Answer.{Said, saidRefused}
-use Rattle.protocol.specs.Network.{Network}
-use Rattle.protocol.specs.Refusal.{answer, next}
+use Rattle.protocol.specs.Answer.{Said}
 use Rattle.protocol.specs.Step.{Event}
-use Rattle.refusal.specs.Outcome.{Outcome, outcome}
-use Rattle.refusal.specs.Refusal.{why}
+use Rattle.refusal.specs.Outcome.{Outcome}
 use Rattle.calls.specs.History.{History, entered}
 
 pub data Call : Type 0 where
@@ -98,13 +95,3 @@ module _ {A : Type 0} (calls : Calls A) where
   pub data AllFair : RunState A → List Call → Type 0 where
     fairNil : {w : RunState A} → AllFair w []
     fairCons : {w : RunState A} {c : Call} {cs : List Call} → Fair w c → AllFair (act w c) cs → AllFair w (c ∷ cs)
-
--- ---- calls on a network of n nodes, by the meaning; how an image is written and read are parameters
-
-module _ (write : ℕ → List ℕ → Network → Outcome ℕ (List ℕ)) (read : List ℕ → Network → Outcome ℕ Network) (n : ℕ) where
-  -- an event with another n is refused with 1
-  abbrev pub stepMeant : ℕ → Event → Network → Outcome Said Network
-  stepMeant m e p = cond (eqb m n) (outcome (answer n p e) (next n p e)) (outcome (saidRefused (why 1 0 0)) p)
-
-  abbrev pub meant : Calls Network
-  meant = record { stepped = stepMeant; written = write; resumed = read }

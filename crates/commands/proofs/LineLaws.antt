@@ -8,7 +8,8 @@ use borrow.Author.Tests.{leb-true}
 use lib.Dec.{eqb, leb}
 use lib.ListN.{length, getD, take, drop, length-drop, drop-of-length-le}
 use lib.Seq.{drop-drop}
-use Rattle.commands.specs.Commands.{onFirst, linesOf, toNewline, numberOf, inRange, headOf}
+use Rattle.commands.specs.Commands.{onFirst, linesOf, numberOf, inRange, headOf}
+use Rattle.commands.specs.inner.Leaves.{toNewline}
 use Rattle.commands.proofs.NumberLaws.{and-right}
 
 -- ---- the lines

@@ -6,7 +6,8 @@ use mathlib.Core.Path.{_≡_, refl, sym, ap, _∙_}
 use lib.Dec.{eqb, ltb}
 use lib.ListN.{getD}
 use Rattle.refusal.proofs.RefusalLaws.{reasonFrom, reason-back}
-use Rattle.commands.specs.Commands.{SaidCommand, saidEvent, saidMalformed, saidCommand, none, named, commandOf}
+use Rattle.commands.specs.Commands.{SaidCommand, saidEvent, saidMalformed, none, named, commandOf}
+use Rattle.commands.specs.inner.Leaves.{saidCommand}
 use Rattle.commands.specs.declared.Command.the-variants.{Up, Down, Receive, Refused}
 use Rattle.commands.specs.declared.Command.{Command}
 

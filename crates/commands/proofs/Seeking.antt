@@ -9,7 +9,8 @@ use borrow.Author.Tests.{eq-eqb, ne-eqb}
 use lib.Dec.{eqb}
 use lib.ListN.{length, getD, drop, drop-of-length-le}
 use lib.Seq.{drop-cons}
-use Rattle.commands.specs.Commands.{toSpace, toNewline}
+use Rattle.commands.specs.Commands.{toSpace}
+use Rattle.commands.specs.inner.Leaves.{toNewline}
 
 pub record Seeks (x : ℕ) (f : List ℕ → ℕ) : Type 0 where
   pub none : f [] ≡ 0

@@ -6,10 +6,8 @@ use mathlib.Core.List.{List, [], _∷_}
 use lib.Dec.{eqb, leb, ltb}
 use lib.ListN.{getD, take, drop}
 use Rattle.refusal.specs.Outcome.{Answered, accepted, refusedWith}
-use Rattle.refusal.specs.Refusal.{why, whyOf}
+use Rattle.refusal.specs.Refusal.{why}
 use Rattle.refusal.specs.declared.Why.{Why}
-use Rattle.commands.specs.declared.Command.the-variants.{Up, Down, Receive, Refused}
-use Rattle.commands.specs.declared.Command.{Command}
 
 -- ---- lines: a newline (10) ends one, and nothing stands after the last
 
@@ -20,11 +18,6 @@ onFirst b (l ∷ ls) = (b ∷ l) ∷ ls
 unfoldable pub linesOf : List ℕ → List (List ℕ)
 linesOf [] = []
 linesOf (b ∷ bs) = cond (eqb b 10) ([] ∷ linesOf bs) (onFirst b (linesOf bs))
-
--- how many bytes stand before the first newline
-unfoldable pub toNewline : List ℕ → ℕ
-toNewline [] = 0
-toNewline (b ∷ bs) = cond (eqb b 10) 0 (suc (toNewline bs))
 
 -- ---- numbers, 0 to 99; 100 stands for none
 
@@ -48,8 +41,7 @@ pub record Line : Type 0 where
   pub first : ℕ
   pub second : ℕ
 
--- what a line says: 0 and the event that it names, or 15; every promise about a command goes through `saidCommand`, which is injective
--- (proofs/Said.antt)
+-- what a line says: 0 and the event that it names, or 15
 abbrev pub SaidCommand : Type 0
 SaidCommand = Answered Line
 
@@ -61,12 +53,6 @@ malformedWith w = refusedWith (record { letter = 0; first = 0; second = 0 }) w
 
 abbrev pub saidMalformed : SaidCommand
 saidMalformed = malformedWith (why 15 0 0)
-
-abbrev pub saidCommand : Command → SaidCommand
-saidCommand (Up u v) = saidEvent 85 u v
-saidCommand (Down u v) = saidEvent 68 u v
-saidCommand (Receive u v) = saidEvent 77 u v
-saidCommand (Refused r) = malformedWith (whyOf r)
 
 -- how many bytes stand before the first space (32)
 unfoldable pub toSpace : List ℕ → ℕ

@@ -1,2 +1,3 @@
 -- Commands of a bench input.
 pub mod Commands
+pub mod inner

@@ -4,7 +4,8 @@ ghost use mathlib.Core.List.{[], _∷_};
 ghost use mathlib.Core.Path.{_≡_};
 ghost use Prim.Native.Nat.{suc, _+_, _≤_};
 ghost use lib.ListN.{length, take, drop};
-ghost use Rattle.commands.specs.Commands.{isDigit, numberOf, inRange, toSpace, toNewline, saidCommand, named, commandOf, headOf};
+ghost use Rattle.commands.specs.Commands.{isDigit, numberOf, inRange, toSpace, named, commandOf, headOf};
+ghost use Rattle.commands.specs.inner.Leaves.{toNewline, saidCommand};
 use refusal::Refusal;
 
 // What an event line names, or that it is malformed (15).

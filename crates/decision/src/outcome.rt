@@ -5,7 +5,7 @@ ghost use Prim.Native.Nat.{_≤_};
 ghost use lib.IntN.{sucℤ, predℤ};
 ghost use lib.ListN.{length};
 ghost use lib.Signed.{ltZ};
-ghost use Rattle.height.specs.Words.{Negated};
+ghost use Rattle.height.specs.inner.Stored.{Negated};
 ghost use Rattle.nodeset.specs.NodeSet.{member, setOf};
 ghost use Rattle.protocol.specs.Holds.{leastDelta, greatestDelta};
 ghost use Rattle.protocol.specs.Network.{Node};

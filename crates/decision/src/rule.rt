@@ -2,7 +2,7 @@
 ghost use mathlib.Core.Path.{_≡_};
 ghost use Prim.Native.Nat.{_≤_, _<_, _^_};
 ghost use lib.ListN.{length};
-ghost use Rattle.height.specs.Words.{Negated};
+ghost use Rattle.height.specs.inner.Stored.{Negated};
 ghost use Rattle.nodeset.specs.NodeSet.{member};
 ghost use Rattle.protocol.specs.Network.{Node};
 ghost use Rattle.protocol.specs.Rules.{downRule, oneLevelRule, equalPairsRule, receiptRule};

@@ -91,7 +91,6 @@ module _ (n : ℕ) (e : Event) (t : Tables) (words : Words t) where
   -- ---- an accepted call: the tables passed, and the loaded network accepts the event
 
   pub record Carried : Type 0 where
-    pub fit : TablesFit n t
     pub passes : checkOn n t .number ≡ 0
     pub accepted : accepts n (load n t) e ≡ true
     pub after-is : stepOn n e t .after ≡ tablesOf n (next n (load n t) e)
@@ -102,7 +101,7 @@ module _ (n : ℕ) (e : Event) (t : Tables) (words : Words t) where
     where
       go : Choice (eqb (checkOn n t .number) 0) → Choice (eqb (returned n (load n t) e) 0) → Carried
       go (yes! i) (yes! a) =
-          record { fit = passing i; passes = eqb-true (checkOn n t .number) 0 i; accepted = a; after-is = rw i }
+          record { passes = eqb-true (checkOn n t .number) 0 i; accepted = a; after-is = rw i }
       go (no! i) a = clash (eq-eqb (checkOn n t .number) 0 (rw i at zero!)) i
       go (yes! i) (no! a) = clash (eq-eqb (returned n (load n t) e) 0 (rw (i, a) at zero!)) a
 

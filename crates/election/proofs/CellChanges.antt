@@ -15,7 +15,8 @@ use Rattle.nodeset.specs.NodeSet.{member}
 use Rattle.protocol.specs.Network.{Node, Message, isNode, fresh, atPairs}
 use Rattle.protocol.specs.Step.{cleared, post}
 use Rattle.protocol.proofs.NodeLaws.{node-passes}
-use Rattle.tables.specs.Cell.{count, queue, appended, taken, emptied}
+use Rattle.tables.specs.Cell.{count, queue}
+use Rattle.tables.specs.inner.Written.{appended, taken, emptied}
 use Rattle.tables.specs.Load.{load, messagesOn}
 use Rattle.tables.specs.Tables.{Tables, tables, channelOf}
 use Rattle.tables.specs.inner.Fit.{CellFits}

@@ -12,7 +12,7 @@ use Rattle.decision.specs.inner.After.{seen}
 use Rattle.decision.specs.inner.Bounds.{AdoptsNode}
 use Rattle.height.specs.Clock.{lastTime, saidMoved, clockAfter}
 use Rattle.height.specs.Height.{zeroHeight}
-use Rattle.height.specs.Words.{Negated}
+use Rattle.height.specs.inner.Stored.{Negated}
 use Rattle.height.specs.declared.Height.{Height}
 use Rattle.height.specs.declared.Moved.the-variants.{To, AtEnd}
 use Rattle.height.specs.declared.Moved.{Moved}

@@ -23,7 +23,7 @@ use Rattle.basics.specs.Functions.{every}
 use Rattle.basics.proofs.FunctionsLaws.{update-at, every-at}
 use Rattle.basics.proofs.Tests.{clash, Choice, yes!, no!, choice}
 use Rattle.height.specs.Clock.{lastTime}
-use Rattle.height.specs.Words.{Negated}
+use Rattle.height.specs.inner.Stored.{Negated}
 use Rattle.height.specs.declared.Height.{Height}
 use Rattle.height.proofs.WordsLaws.{negated-size}
 use Rattle.nodeset.specs.NodeSet.{member, setOf}
@@ -35,7 +35,8 @@ use Rattle.protocol.specs.declared.Rule.{Rule}
 use Rattle.protocol.proofs.Kept.{down-silent}
 use Rattle.tables.specs.Cell.{count, queue}
 use Rattle.tables.specs.Load.{load}
-use Rattle.tables.specs.Tables.{Tables, nodeOf, putNode, channelOf}
+use Rattle.tables.specs.Tables.{Tables, nodeOf, channelOf}
+use Rattle.tables.specs.inner.Written.{putNode}
 use Rattle.tables.proofs.CellLaws.{messages-length}
 use Rattle.tables.proofs.Wordy.{Wordy}
 use Rattle.election.specs.StepOn.{stepAt}

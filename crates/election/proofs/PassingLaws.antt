@@ -5,7 +5,8 @@ use mathlib.Core.Path.{_≡_, ap, _∙_}
 use Rattle.lent.specs.Check.{checkOn}
 use Rattle.lent.proofs.SoundLoads.{sound-loads, load-inside}
 use Rattle.lent.proofs.SoundNetworks.{sound-check}
-use Rattle.lent.proofs.SoundTables.{Words}
+use Rattle.lent.proofs.CheckLaws.{sound-sized}
+use Rattle.lent.proofs.SoundTables.{Words, sound-fits as tables-fit}
 use Rattle.protocol.specs.Refusal.{next}
 use Rattle.protocol.specs.Step.{Event}
 use Rattle.protocol.proofs.Holding.{sound-holds}
@@ -20,11 +21,12 @@ use Rattle.election.proofs.CallerLaws.{Carried, carried-out}
 
 module _ (n : ℕ) (e : Event) (t : Tables) (words : Words t) where
   loaded-fits : Carried n e t words → Fits n (load n t)
-  loaded-fits c = sound-fits n (load n t) (load-inside n t (c .fit)) (sound-loads n t words (c .passes))
+  loaded-fits c = sound-fits n (load n t) (load-inside n t (tables-fit n t words (c .passes))) (sound-loads n t words (c .passes))
 
   pub accepted-passes : stepOn n e t .said .why .number ≡ 0 → checkOn n (stepOn n e t .after) ≡ why 0 0 0
   accepted-passes zero! =
       let c = carried-out n e t words zero! in
       let fits = fits-next n (load n t) e (loaded-fits c) in
       let q = next n (load n t) e in
-      ap (checkOn n) (c .after-is) ∙ sound-check n q (storable n q fits) (sound-holds n q fits) (c .fit .size .low) (c .fit .size .few)
+      let size = sound-sized n t (c .passes) in
+      ap (checkOn n) (c .after-is) ∙ sound-check n q (storable n q fits) (sound-holds n q fits) (size .low) (size .few)

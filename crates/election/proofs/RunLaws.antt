@@ -26,7 +26,8 @@ use Rattle.refusal.specs.Refusal.{why}
 use Rattle.tables.specs.Load.{load, tablesOf}
 use Rattle.tables.specs.Tables.{sized, width}
 use Rattle.tables.proofs.Back.{Storable, storable, load-back, tables-sized}
-use Rattle.election.specs.RunOn.{EventCall, tablesLeft, saidOn, called, saidTo}
+use Rattle.election.specs.RunOn.{EventCall, tablesLeft, saidOn}
+use Rattle.election.specs.inner.Meant.{called, saidTo}
 use Rattle.election.specs.StepOn.{stepAt, stepChecked, stepOn}
 
 -- tables of n nodes are tables of no other number of nodes

@@ -14,12 +14,15 @@ use Rattle.basics.proofs.FunctionsLaws.{every-at}
 use Rattle.basics.proofs.Tests.{clash, SameOrNot, equal?, not-both}
 use Rattle.height.specs.declared.Height.{Height}
 use Rattle.height.proofs.WordsLaws.{stored-length}
-use Rattle.nodeset.specs.NodeSet.{member, sameNode, inButNot, lowest}
+use Rattle.nodeset.specs.NodeSet.{member}
+use Rattle.nodeset.specs.inner.Operations.{sameNode, inButNot, lowest}
 use Rattle.nodeset.proofs.Members.{none-in-zero, member-range}
 use Rattle.nodeset.proofs.Walk.{LowestNode, lowest-in, member-without, without-less}
 use Rattle.protocol.specs.Network.{Node}
-use Rattle.tables.specs.Cell.{count, appended, taken, emptied}
-use Rattle.tables.specs.Tables.{cellWidth, channelOf, putChannel}
+use Rattle.tables.specs.Cell.{count}
+use Rattle.tables.specs.inner.Written.{appended, taken, emptied}
+use Rattle.tables.specs.Tables.{cellWidth, channelOf}
+use Rattle.tables.specs.inner.Written.{putChannel}
 use Rattle.tables.proofs.RowsLaws.{channel-length, channel-put, channel-put-length, channel-other}
 use Rattle.election.specs.declared.Kind.the-variants.{Raised, Dropped, Received}
 use Rattle.election.specs.declared.Kind.{Kind}

@@ -2,11 +2,13 @@
 ghost use mathlib.Core.Path.{_≡_};
 ghost use Prim.Native.Nat.{_*_, _≤_};
 ghost use lib.ListN.{length};
-ghost use Rattle.height.specs.Words.{Negated};
+ghost use Rattle.height.specs.inner.Stored.{Negated};
 ghost use Rattle.protocol.specs.Answer.{said};
 ghost use Rattle.protocol.specs.Network.{Node};
 ghost use Rattle.refusal.specs.Outcome.{outcome};
-ghost use Rattle.tables.specs.Tables.{width, given, atEntry, atExit, nodeOf, putNode};
+ghost use Rattle.tables.specs.Tables.{width, atEntry, atExit, nodeOf};
+ghost use Rattle.tables.specs.inner.Fit.{given};
+ghost use Rattle.tables.specs.inner.Written.{putNode};
 ghost use Rattle.election.specs.StepOn.{stepAt};
 ghost use Rattle.election.specs.inner.Deciding.{eventOf, Ready, rowAfter};
 use super::Kind;

@@ -8,7 +8,8 @@ use lib.ListN.{length}
 use mir.Syntax.{w64}
 use mir.Val.{SFits, toZ, ofZ}
 use Rattle.height.specs.Height.{levelKey, pairKey, heightKey}
-use Rattle.height.specs.Order.{before, same, orderOf, andThen, isLess, isEqual}
+use Rattle.height.specs.Order.{before, same}
+use Rattle.height.specs.inner.Comparison.{orderOf, andThen, isLess, isEqual}
 use Rattle.height.specs.declared.Height.{Height}
 use Rattle.height.specs.declared.LeaderPair.{LeaderPair}
 use Rattle.height.specs.declared.ReferenceLevel.{ReferenceLevel}

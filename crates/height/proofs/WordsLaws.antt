@@ -11,7 +11,8 @@ use lib.Seq.{sets, length-sets, getD-set-same, getD-set-other}
 use lib.Dec.{ltb}
 use lib.IntN.{ℤ, pos, negsuc, negℤ, natAbs}
 use lib.Signed.{mag}
-use Rattle.height.specs.Words.{deltaOf, deltaWord, heightWords, heightAt, storedAt, Negated}
+use Rattle.height.specs.Words.{deltaOf, deltaWord, heightWords, heightAt}
+use Rattle.height.specs.inner.Stored.{storedAt, Negated}
 use Rattle.height.specs.declared.Height.{Height}
 
 -- ---- a run of stores, read

@@ -3,3 +3,4 @@ pub mod Clock
 pub mod Height
 pub mod Order
 pub mod Words
+pub mod inner

@@ -1,10 +1,9 @@
 -- A height as the seven words of a lent table: tau, oid, r, delta, election time without its sign, lid, id.
 -- Every word decodes to a number, so loading is total; zero words are the all-zero height.
-use Prim.Native.Nat.{ℕ, _+_, _-_, _≤_}
+use Prim.Native.Nat.{ℕ, _+_, _-_}
 use mathlib.Core.Bool.{cond}
 use mathlib.Core.List.{List, [], _∷_}
 use lib.ListN.{getD}
-use lib.Seq.{sets}
 use lib.Dec.{ltb}
 use lib.IntN.{ℤ, pos, negsuc, negℤ, natAbs}
 use Rattle.height.specs.declared.Height.{Height}
@@ -32,13 +31,3 @@ heightAt ws i =
       pair = record { nlts = record { 0 = negℤ (pos (getD ws (i + 4) 0)) }; lid = getD ws (i + 5) 0 };
       id = getD ws (i + 6) 0;
     }
-
--- the words with h's from index i
-unfoldable pub storedAt : List ℕ → ℕ → Height → List ℕ
-unfolding heightWords
-storedAt ws i h = sets ws i (heightWords h)
-
--- the range of a negated election time: 0 down to −4,294,967,295
-unfoldable pub Negated : ℤ → Type 0
-Negated (pos n) = n ≤ 0
-Negated (negsuc n) = n ≤ 4294967294

@@ -12,10 +12,11 @@ use borrow.Author.Tests.{ltb-true, le-leb}
 use Rattle.basics.specs.Functions.{every}
 use Rattle.basics.proofs.Tests.{and-left, and-right, equal?}
 use Rattle.height.specs.Clock.{lastTime}
-use Rattle.height.specs.Words.{Negated}
+use Rattle.height.specs.inner.Stored.{Negated}
 use Rattle.height.specs.declared.Height.{Height}
 use Rattle.height.specs.declared.ReferenceLevel.{ReferenceLevel}
-use Rattle.nodeset.specs.NodeSet.{member, within, apart}
+use Rattle.nodeset.specs.NodeSet.{member, within}
+use Rattle.nodeset.specs.inner.Operations.{apart}
 use Rattle.nodeset.proofs.Members.{none-above}
 use Rattle.protocol.specs.Holds.{levelHolds, deltaHolds, leaderPairHolds, heightHolds, notInBoth, setsHold}
 

@@ -3,7 +3,7 @@
 ghost use mathlib.Core.Path.{_≡_};
 ghost use mathlib.Core.Bool.{_&&_};
 ghost use Prim.Native.Nat.{_≤_};
-ghost use Rattle.height.specs.Words.{Negated};
+ghost use Rattle.height.specs.inner.Stored.{Negated};
 ghost use Rattle.nodeset.specs.NodeSet.{member, within};
 ghost use Rattle.protocol.specs.Holds.{levelHolds, deltaHolds, heightHolds, setsHold};
 ghost use Rattle.protocol.specs.Network.{Node};

@@ -4,7 +4,8 @@ use native.Mathlib.Omega.{arith}
 use mathlib.Core.List.{List, [], _∷_, _++_, append-nil}
 use mathlib.Core.Path.{_≡_, refl, sym, ap, _∙_}
 use lib.ListN.{length, take, drop, set, length-append, length-drop, length-set, drop-of-length-le}
-use Rattle.bits.specs.Bits.{bits, unpacked, field, written}
+use Rattle.bits.specs.Bits.{bits, unpacked, field}
+use Rattle.bits.specs.inner.Written.{written}
 use Rattle.bits.proofs.Bytes.{length-written, written-written}
 use Rattle.bits.proofs.Numbers.{below-bits, length-bits}
 use Rattle.tables.specs.Cell.{count}

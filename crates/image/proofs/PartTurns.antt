@@ -8,7 +8,8 @@ use mathlib.Core.List.{List, [], _++_, append-assoc, append-nil}
 use mathlib.Core.Path.{_≡_, refl, sym, ap, ap₂, _∙_}
 use lib.ListN.{length, take, drop, replicate, length-append, length-drop, length-replicate, replicate-append-replicate, drop-of-length-le}
 use lib.Seq.{take-at, drop-at, drop-drop}
-use Rattle.bits.specs.Bits.{unpacked, written, RoomFor}
+use Rattle.bits.specs.Bits.{unpacked}
+use Rattle.bits.specs.inner.Written.{written, RoomFor}
 use Rattle.bits.proofs.Bytes.{length-written, written-none, written-written}
 use Rattle.bits.proofs.Numbers.{Below}
 use Rattle.tables.specs.Records.{slotWords}

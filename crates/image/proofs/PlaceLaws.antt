@@ -7,7 +7,8 @@ use mathlib.Core.Path.{_≡_, sym, _∙_}
 use mathlib.Core.List.{List}
 use lib.Dec.{eqb}
 use Rattle.basics.proofs.Tests.{Choice, yes!, no!, choice}
-use Rattle.image.specs.Places.{nodePlace, walked, channelNext, channelsNext, channelsPlace, channelsFromPlace, channelPlace, imageEnd}
+use Rattle.image.specs.Places.{nodePlace, walked, channelNext, channelsNext, channelsPlace, channelsFromPlace, channelPlace}
+use Rattle.image.specs.inner.Parts.{imageEnd}
 use Rattle.image.specs.Widths.{nodeWidth}
 use Rattle.image.proofs.ChannelLaws.{next-same, next-other}
 use Rattle.image.proofs.WalkLaws.{walked-mono}

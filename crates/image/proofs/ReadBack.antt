@@ -18,7 +18,8 @@ use Rattle.tables.specs.Rows.{rows}
 use Rattle.tables.proofs.RecordsLaws.{Agree}
 use Rattle.tables.proofs.RowsMore.{later, length-rows}
 use Rattle.image.specs.Image.{nodeBits, messageBits, channelBits, channelsBits, networkBits}
-use Rattle.image.specs.Places.{channelsPlace, channelsFromPlace, channelPlace, imageEnd, recordsIn}
+use Rattle.image.specs.Places.{channelsPlace, channelsFromPlace, channelPlace, recordsIn}
+use Rattle.image.specs.inner.Parts.{imageEnd}
 use Rattle.image.specs.Places.{fieldIn, nodePlace, heightFrom, messagesOf, channelFrom, walked, channelNext, channelsNext}
 use Rattle.image.specs.Widths.{recordBits, recordOf, heightWidth, messageWidth, nodeWidth}
 use Rattle.image.proofs.ChannelLaws.{MessageFields, length-messages, messages-read, channel-same, channel-other, next-same, next-other}

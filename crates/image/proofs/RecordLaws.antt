@@ -11,7 +11,8 @@ use borrow.Author.Tests.{lt-ltb, le-ltb}
 use lib.ListN.{length, take, drop, getD, set, length-take, length-set}
 use lib.Seq.{set-set, set-getD, getD-set-same, getD-take}
 use lib.Pow.{pow-pos, pow-mono, high-ones}
-use Rattle.bits.specs.Bits.{bits, total, spread, gathered, RoomFor}
+use Rattle.bits.specs.Bits.{bits, spread, gathered}
+use Rattle.bits.specs.inner.Written.{total, RoomFor}
 use Rattle.bits.proofs.Fields.{Fitting, spread-gathered, gathered-spread, length-gathered, length-spread, below-spread}
 use Rattle.bits.proofs.Numbers.{Below, bits-cong, below-nil, below-cons, below-take, below-drop}
 use Rattle.image.specs.Places.{fieldIn}

@@ -9,7 +9,8 @@ use mathlib.Core.Path.{_≡_, sym, ap, ap₂, _∙_}
 use mathlib.Core.List.{List, [], _∷_, _++_, append-nil}
 use lib.ListN.{length, take, drop, getD, set, length-set, length-append, length-drop, length-take, drop-of-length-le}
 use lib.Seq.{take-all, drop-cons, drop-drop, set-at, set-append-left, getD-take, take-append-seam}
-use Rattle.bits.specs.Bits.{bits, number, unpacked, field, written, total, spread, gathered, RoomFor}
+use Rattle.bits.specs.Bits.{bits, number, unpacked, field, spread, gathered}
+use Rattle.bits.specs.inner.Written.{written, total, RoomFor}
 use Rattle.bits.proofs.Bytes.{written-written}
 use Rattle.bits.proofs.Fields.{below-spread, length-spread, length-gathered, spread-more, gathered-more}
 use Rattle.bits.proofs.Numbers.{length-bits}

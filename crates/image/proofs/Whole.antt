@@ -12,7 +12,8 @@ use Rattle.bits.proofs.Numbers.{Below, below-nil, below-cons, below-append, bel
 use Rattle.tables.specs.Records.{Records}
 use Rattle.tables.proofs.RecordsLaws.{Agree}
 use Rattle.image.specs.Image.{headerBits, networkBits, padded, bytesOf, imageOf}
-use Rattle.image.specs.Places.{fieldIn, imageEnd, recordsIn}
+use Rattle.image.specs.Places.{fieldIn, recordsIn}
+use Rattle.image.specs.inner.Parts.{imageEnd}
 use Rattle.image.proofs.FieldInLaws.{field-head, field-behind, field-tail, field-in-lt}
 use Rattle.image.proofs.ImageBits.{number-zeros, zeros, padding, wholeBits, below-whole, unpacked-image, length-image, length-whole, behind-header}
 use Rattle.image.proofs.ReadBack.{Fit, network-read, end-read, place-read}

@@ -10,12 +10,14 @@ use lib.Dec.{eqb}
 use lib.ListN.{length, take, drop, length-drop, take-append-drop}
 use lib.Seq.{drop-drop}
 use Rattle.basics.proofs.Tests.{Choice, yes!, no!, choice}
-use Rattle.bits.specs.Bits.{bits, total}
+use Rattle.bits.specs.Bits.{bits}
+use Rattle.bits.specs.inner.Written.{total}
 use Rattle.bits.proofs.Numbers.{Below, below-drop}
 use Rattle.tables.specs.Records.{Records}
 use Rattle.tables.specs.Rows.{rows}
 use Rattle.image.specs.Image.{nodeBits, messageBits, channelBits, channelsBits, networkBits}
-use Rattle.image.specs.Places.{channelsPlace, channelsFromPlace, channelPlace, imageEnd, recordsIn}
+use Rattle.image.specs.Places.{channelsPlace, channelsFromPlace, channelPlace, recordsIn}
+use Rattle.image.specs.inner.Parts.{imageEnd}
 use Rattle.image.specs.Places.{fieldIn, nodePlace, heightFrom, messagesOf, channelFrom, walked, channelNext, channelsNext}
 use Rattle.image.specs.Widths.{widthsOf, recordBits, recordOf, heightWidth, messageWidth, nodeWidth}
 use Rattle.image.proofs.ChannelLaws.{length-messages-of, channel-same, channel-other, next-same, next-other}

@@ -65,10 +65,6 @@ channelsFromPlace h d n l u = walked (channelsNext d n l) (u - 1) (channelsPlace
 unfoldable pub channelPlace : ℕ → ℕ → ℕ → List ℕ → ℕ → ℕ → ℕ
 channelPlace h d n l u v = walked (channelNext d l u) (v - 1) (channelsFromPlace h d n l u)
 
--- behind the last channel
-unfoldable pub imageEnd : ℕ → ℕ → ℕ → List ℕ → ℕ
-imageEnd h d n l = walked (channelsNext d n l) n (channelsPlace h d n)
-
 -- ---- all that is read; no channel leads from a node to itself
 
 unfoldable pub recordsIn : ℕ → ℕ → ℕ → List ℕ → Records

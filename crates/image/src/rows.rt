@@ -2,7 +2,8 @@
 ghost use mathlib.Core.Path.{_≡_};
 ghost use Prim.Native.Nat.{_*_, _≤_};
 ghost use lib.ListN.{length};
-ghost use Rattle.bits.specs.Bits.{unpacked, written};
+ghost use Rattle.bits.specs.Bits.{unpacked};
+ghost use Rattle.bits.specs.inner.Written.{written};
 ghost use Rattle.tables.specs.Tables.{heightSize, width};
 ghost use Rattle.image.specs.Places.{heightsFrom};
 ghost use Rattle.image.specs.Widths.{nodeWidth};

@@ -6,7 +6,8 @@ use mathlib.Core.Bool.{true, false}
 use mathlib.Core.List.{List}
 use mathlib.Core.Path.{_≡_, sym, ap, _∙_}
 use lib.ListN.{length}
-use Rattle.image.specs.Places.{imageEnd, tablesIn}
+use Rattle.image.specs.Places.{tablesIn}
+use Rattle.image.specs.inner.Parts.{imageEnd}
 use Rattle.lent.specs.Check.{firstFault}
 use Rattle.refusal.specs.Refusal.{why, whyOf}
 use Rattle.refusal.specs.declared.Refusal.{Refusal}

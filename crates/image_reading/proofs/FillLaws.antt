@@ -7,7 +7,8 @@ use mathlib.Core.List.{List, _++_}
 use mathlib.Core.Path.{_≡_, refl, sym, ap, ap₂, _∙_}
 use lib.ListN.{length, take, drop}
 use lib.Seq.{take-add, take-all, take-at, length-take-le}
-use Rattle.tables.specs.Rows.{rows, rowAt, putRow}
+use Rattle.tables.specs.Rows.{rows, rowAt}
+use Rattle.tables.specs.inner.Written.{putRow}
 use Rattle.tables.proofs.RowsLaws.{row-fits, row-length, row-put, put-row-length, part-row, changed-row}
 use Rattle.tables.proofs.RowsMore.{rows-more}
 

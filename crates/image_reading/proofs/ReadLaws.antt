@@ -10,7 +10,8 @@ use lib.Dec.{eqb}
 use lib.ListN.{length, replicate}
 use Rattle.bits.specs.Bits.{unpacked}
 use Rattle.bits.proofs.Bytes.{length-unpacked}
-use Rattle.image.specs.Places.{fieldIn, nodePlace, walked, channelNext, channelsNext, channelsPlace, channelsFromPlace, channelPlace, imageEnd, recordsIn}
+use Rattle.image.specs.Places.{fieldIn, nodePlace, walked, channelNext, channelsNext, channelsPlace, channelsFromPlace, channelPlace, recordsIn}
+use Rattle.image.specs.inner.Parts.{imageEnd}
 use Rattle.image.specs.Widths.{messageWidth, nodeWidth}
 use Rattle.image.specs.inner.Parts.{Inside, rowFrom, cellFrom}
 use Rattle.image.proofs.ChannelLaws.{next-same, next-other}

@@ -9,7 +9,8 @@ use mathlib.Core.Path.{_≡_, refl, sym, subst, _∙_}
 use borrow.Author.Tests.{le-ltb, ltb-false, eqb-false}
 use lib.Dec.{ltb, eqb}
 use lib.ListN.{length}
-use Rattle.image.specs.Places.{fieldIn, walked, channelNext, channelsNext, channelsPlace, channelsFromPlace, channelPlace, imageEnd}
+use Rattle.image.specs.Places.{fieldIn, walked, channelNext, channelsNext, channelsPlace, channelsFromPlace, channelPlace}
+use Rattle.image.specs.inner.Parts.{imageEnd}
 use Rattle.image.specs.Widths.{messageWidth, heightWidth, nodeWidth}
 use Rattle.image.proofs.Bounds.{nodes-small}
 use Rattle.image.proofs.PlaceLaws.{channel-on, channels-on, start-in, walked-le}

@@ -9,16 +9,9 @@ use Rattle.bits.specs.Bits.{number}
 use Rattle.image.specs.Places.{fieldIn, channelsPlace}
 use Rattle.image.specs.Widths.{messageWidth}
 use Rattle.protocol.specs.Network.{capacity}
-use Rattle.refusal.specs.Refusal.{why, whyOf}
 use Rattle.refusal.specs.declared.Refusal.the-variants.{Fault, BadEnd}
-use Rattle.refusal.specs.declared.Why.{Why}
 use Rattle.image_reading.specs.declared.Walk.the-variants.{At, Refused}
 use Rattle.image_reading.specs.declared.Walk.{Walk}
-
--- 0 where it goes on, 2 with the pair at which it stopped, 12 where it was cut off
-abbrev pub saidWalk : Walk → Why
-saidWalk (At q) = why 0 0 0
-saidWalk (Refused r) = whyOf r
 
 -- channel u to v, which starts at q: a count of 4 bits, then so many messages; none from a node to itself
 unfoldable pub channelStep : ℕ → List ℕ → ℕ → ℕ → ℕ → Walk

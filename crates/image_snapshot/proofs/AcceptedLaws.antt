@@ -9,7 +9,8 @@ use lib.Dec.{eqb, leb, ltb}
 use lib.ListN.{length, drop}
 use Rattle.basics.proofs.Tests.{Choice, yes!, no!, choice, and-left, and-right, clash}
 use Rattle.bits.specs.Bits.{field, number, unpacked}
-use Rattle.image.specs.Places.{imageEnd, tablesIn}
+use Rattle.image.specs.Places.{tablesIn}
+use Rattle.image.specs.inner.Parts.{imageEnd}
 use Rattle.image_reading.specs.Examine.{afterWalk, examined}
 use Rattle.image_reading.specs.inner.Cells.{Walkable}
 use Rattle.image_reading.specs.Header.{fieldsOf, headerHolds, headerOf}

@@ -9,7 +9,8 @@ use lib.ListN.{length, drop, length-map}
 use Rattle.bits.specs.Bits.{field, unpacked}
 use Rattle.bits.proofs.Bytes.{length-unpacked}
 use Rattle.image.specs.Image.{imageOf, image}
-use Rattle.image.specs.Places.{fieldIn, channelFrom, channelPlace, imageEnd, recordsIn, tablesIn}
+use Rattle.image.specs.Places.{fieldIn, channelFrom, channelPlace, recordsIn, tablesIn}
+use Rattle.image.specs.inner.Parts.{imageEnd}
 use Rattle.image.proofs.ChannelLaws.{length-messages-of}
 use Rattle.image.proofs.ImageBits.{length-image, length-whole, number-zeros}
 use Rattle.image.proofs.NetworkFits.{network-fit}

@@ -11,7 +11,8 @@ use Rattle.image_reading.specs.Header.{headerOf}
 use Rattle.image_reading.specs.declared.Fields.{Fields}
 use Rattle.refusal.specs.Outcome.{Answered, outcome}
 use Rattle.refusal.specs.Refusal.{why}
-use Rattle.tables.specs.Tables.{Tables, Sized, sized}
+use Rattle.tables.specs.Tables.{Tables, sized}
+use Rattle.tables.specs.inner.Fit.{Sized}
 use Rattle.image_snapshot.specs.Restore.{restoreExamined, restoreOf, restoreHeaded, restoreOn}
 
 -- tables of one size are of the same size for every number of nodes

@@ -25,7 +25,8 @@ use Rattle.refusal.specs.Outcome.{putFront}
 use Rattle.tables.specs.Cell.{messageWords}
 use Rattle.tables.specs.Load.{load, tablesOf}
 use Rattle.tables.specs.Records.{recordsOf}
-use Rattle.tables.specs.Tables.{Tables, Sized}
+use Rattle.tables.specs.Tables.{Tables}
+use Rattle.tables.specs.inner.Fit.{Sized}
 use Rattle.tables.specs.inner.Fit.{TablesFit}
 use Rattle.tables.proofs.RecordsLaws.{Agree, network-shaped, made-sized, tables-tell}
 use Rattle.tables.proofs.TablesLaws.{tables-back}
@@ -36,12 +37,12 @@ use Rattle.image_snapshot.proofs.AcceptedLaws.{HeaderGood, ExaminedGood
 -- ---- an image that was accepted, of n nodes by its header
 
 module _ (xs : List ℕ) (bytes : Below 256 xs) (head : HeaderGood xs) (good : ExaminedGood (field xs 16 5) (unpacked xs)) where
-  pub size : Sized (field xs 16 5) (tablesIn 32 16 (field xs 16 5) (unpacked xs))
+  size : Sized (field xs 16 5) (tablesIn 32 16 (field xs 16 5) (unpacked xs))
   unfolding tablesIn
   size = made-sized (field xs 16 5) _ (records-shaped 32 16 (field xs 16 5) (unpacked xs)) (head .low) (head .few)
 
   -- the tables pass the check
-  pub passes : checkOn (field xs 16 5) (tablesIn 32 16 (field xs 16 5) (unpacked xs)) .number ≡ 0
+  passes : checkOn (field xs 16 5) (tablesIn 32 16 (field xs 16 5) (unpacked xs)) .number ≡ 0
   passes = rw (← check-places (field xs 16 5) (tablesIn 32 16 (field xs 16 5) (unpacked xs)) (is-sized _ _ size)) (good .sound)
 
   words : Words (tablesIn 32 16 (field xs 16 5) (unpacked xs))
@@ -81,7 +82,7 @@ module _ (xs : List ℕ) (bytes : Below 256 xs) (head : HeaderGood xs) (good : E
   }
 
   -- and their image is the bytes again
-  pub image-again : image (field xs 16 5) (load (field xs 16 5) (tablesIn 32 16 (field xs 16 5) (unpacked xs))) ≡ xs
+  image-again : image (field xs 16 5) (load (field xs 16 5) (tablesIn 32 16 (field xs 16 5) (unpacked xs))) ≡ xs
   unfolding image p
   image-again =
       same-image (field xs 16 5) (recordsOf (field xs 16 5) p) (recordsIn 32 16 (field xs 16 5) (unpacked xs)) agree 16 1 32

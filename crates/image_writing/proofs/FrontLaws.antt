@@ -7,7 +7,8 @@ use mathlib.Core.List.{List, [], _∷_, _++_}
 use mathlib.Core.Path.{_≡_, sym, ap, ap₂, _∙_}
 use lib.ListN.{length, take, drop, length-drop}
 use lib.Seq.{take-append-le, drop-append-le}
-use Rattle.bits.specs.Bits.{number, unpacked, packed, over, written}
+use Rattle.bits.specs.Bits.{number, unpacked, packed}
+use Rattle.bits.specs.inner.Written.{over, written}
 use Rattle.bits.proofs.Bytes.{unpacked-drop, packed-unpacked}
 use Rattle.bits.proofs.Numbers.{Below, below-drop}
 use Rattle.image.specs.Image.{padded, bytesOf}

@@ -4,7 +4,8 @@ use native.Mathlib.Omega.{arith}
 use mathlib.Core.List.{List, _++_}
 use mathlib.Core.Path.{_≡_, refl, ap, _∙_}
 use lib.ListN.{length, length-append}
-use Rattle.bits.specs.Bits.{bits, written}
+use Rattle.bits.specs.Bits.{bits}
+use Rattle.bits.specs.inner.Written.{written}
 use Rattle.bits.proofs.Bytes.{length-written}
 use Rattle.bits.proofs.Numbers.{length-bits}
 use Rattle.image.specs.Image.{headerBits}

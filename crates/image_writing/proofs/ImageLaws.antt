@@ -6,7 +6,7 @@ use native.Mathlib.Omega.{arith}
 use mathlib.Core.List.{List, _++_, append-assoc}
 use mathlib.Core.Path.{_≡_, sym, ap, _∙_}
 use lib.ListN.{length, drop, replicate, length-append, length-replicate}
-use Rattle.bits.specs.Bits.{written}
+use Rattle.bits.specs.inner.Written.{written}
 use Rattle.bits.proofs.Bytes.{written-written}
 use Rattle.bits.proofs.Numbers.{Below, below-append}
 use Rattle.image.specs.Image.{headerBits, padded, image}

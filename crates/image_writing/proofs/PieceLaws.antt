@@ -5,7 +5,7 @@ use native.Mathlib.Omega.{arith}
 use mathlib.Core.List.{List, [], _++_, append-nil}
 use mathlib.Core.Path.{_≡_, refl, sym, ap, _∙_}
 use lib.ListN.{length, length-append}
-use Rattle.bits.specs.Bits.{written}
+use Rattle.bits.specs.inner.Written.{written}
 use Rattle.bits.proofs.Bytes.{written-written, written-none, length-written}
 use Rattle.bits.proofs.Numbers.{Below}
 use Rattle.image.specs.inner.Parts.{Inside}

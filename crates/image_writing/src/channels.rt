@@ -2,7 +2,7 @@
 ghost use mathlib.Core.Path.{_≡_};
 ghost use Prim.Native.Nat.{_+_, _*_, _≤_};
 ghost use lib.ListN.{length};
-ghost use Rattle.bits.specs.Bits.{written};
+ghost use Rattle.bits.specs.inner.Written.{written};
 ghost use Rattle.image.specs.inner.Parts.{Inside, Depth};
 ghost use Rattle.protocol.specs.Network.{Node};
 ghost use Rattle.tables.specs.Tables.{cellWidth};

@@ -11,7 +11,8 @@ use Rattle.basics.proofs.Tests.{Choice, yes!, no!, choice, equal?, and-left, an
 use Rattle.protocol.specs.Network.{Node}
 use Rattle.refusal.specs.Refusal.{why}
 use Rattle.refusal.specs.declared.Why.{Why}
-use Rattle.tables.specs.Tables.{Tables, sized, Sized, width, cellWidth}
+use Rattle.tables.specs.Tables.{Tables, sized, width, cellWidth}
+use Rattle.tables.specs.inner.Fit.{Sized}
 use Rattle.lent.specs.Check.{pairAt, faultInRow, faultFrom, orElse, firstFault, checkOn}
 
 -- ---- the sizes

@@ -21,11 +21,15 @@ use Rattle.protocol.specs.Network.{Node, atNodes, atPairs, freshHeight, fresh}
 use Rattle.protocol.proofs.Restrict.{nodes-is, pairs-is, same-nodes, same-pairs}
 use Rattle.refusal.specs.Outcome.{outcome}
 use Rattle.refusal.specs.Refusal.{why}
-use Rattle.tables.specs.Cell.{emptied, queue}
+use Rattle.tables.specs.Cell.{queue}
+use Rattle.tables.specs.inner.Written.{emptied}
 use Rattle.tables.specs.Load.{load, tablesOf, clockAt, neighborsAt, formingAt, heightsAt, messagesOn}
-use Rattle.tables.specs.Row.{clockIn, neighborsIn, formingIn, heightIn, putHeight}
+use Rattle.tables.specs.Row.{clockIn, neighborsIn, formingIn, heightIn}
+use Rattle.tables.specs.inner.Written.{putHeight}
 use Rattle.tables.specs.Rows.{rowAt}
-use Rattle.tables.specs.Tables.{Tables, tables, sized, Sized, width, cellWidth, nodeOf, putNode, pairOf, channelOf}
+use Rattle.tables.specs.Tables.{Tables, tables, sized, width, cellWidth, nodeOf, pairOf, channelOf}
+use Rattle.tables.specs.inner.Fit.{Sized}
+use Rattle.tables.specs.inner.Written.{putNode}
 use Rattle.tables.specs.inner.Fit.{RowFits, TablesFit}
 use Rattle.tables.proofs.CellLaws.{emptied-fits, queue-emptied}
 use Rattle.tables.proofs.RowLaws.{put-word, put-heights, put-fits}

@@ -10,7 +10,7 @@ use lib.Dec.{eqb, leb, ltb}
 use lib.ListN.{getD, length, drop}
 use lib.Seq.{getD-take, getD-drop}
 use borrow.Author.Tests.{eq-eqb, ne-eqb, le-leb, ltb-true, ltb-false}
-use Rattle.basics.proofs.FunctionsLaws.{every-all}
+use Rattle.basics.proofs.FunctionsLaws.{every-pair-all}
 use Rattle.basics.proofs.Tests.{clash, not-true-is-false, Choice, yes!, no!, choice, equal?, and-both}
 use Rattle.height.specs.Clock.{lastTime}
 use Rattle.height.specs.Height.{heightKey, zeroHeight}
@@ -20,7 +20,7 @@ use Rattle.height.proofs.OrderLaws.{same-refl}
 use Rattle.nodeset.specs.NodeSet.{member}
 use Rattle.pairs.specs.Pair.{viewSound}
 use Rattle.pairs.proofs.HeldPairs.{OwnHolds}
-use Rattle.protocol.specs.Holds.{heightHolds, isEmpty, ownHolds, viewHolds, channelHolds, pairHolds, nodeHolds, sound}
+use Rattle.protocol.specs.Holds.{heightHolds, isEmpty, ownHolds, viewHolds, channelHolds, pairHolds, sound}
 use Rattle.protocol.specs.Network.{Node, capacity, fresh, restrict}
 use Rattle.protocol.proofs.NodeLaws.{other-fails}
 use Rattle.protocol.proofs.Restrict.{pairs-is, nodes-is}
@@ -120,10 +120,8 @@ module _ (n : ℕ) (t : Tables) (words : Words t) (passes : checkOn n t .number 
       go (inr d) = rw (ne-eqb u v d) (and-both (view-loads n t words passes u a v b d) (channel-loads n t words passes u a v b d))
 
   pub sound-loads : sound n (load n t) ≡ true
-  unfolding sound nodeHolds
-  sound-loads =
-      every-all n (nodeHolds n (load n t)) λ u l h.
-      every-all n (pairHolds n (load n t) u) λ v m k. place-loads u v (record { low = l; high = h }) (record { low = m; high = k })
+  unfolding sound
+  sound-loads = every-pair-all n (pairHolds n (load n t)) λ u l h v m k. place-loads u v (record { low = l; high = h }) (record { low = m; high = k })
 
 -- ---- nothing beyond node n
 

@@ -12,14 +12,14 @@ use lib.Seq.{drop-append-add}
 use borrow.Author.Tests.{eq-eqb, ne-eqb, leb-true}
 use Rattle.basics.specs.Functions.{every, all}
 use Rattle.basics.proofs.AllOf.{more}
-use Rattle.basics.proofs.FunctionsLaws.{every-at, every-all}
+use Rattle.basics.proofs.FunctionsLaws.{every-at, every-all, every-pair-at}
 use Rattle.basics.proofs.Tests.{clash, Choice, yes!, no!, choice, equal?, and-left, and-right, and-both}
 use Rattle.height.specs.Height.{zeroHeight}
 use Rattle.height.specs.Words.{heightWords, deltaWord}
 use Rattle.nodeset.specs.NodeSet.{member, setOf, within}
 use Rattle.nodeset.proofs.Members.{member-setOf, setOf-lt, lt-within}
 use Rattle.pairs.specs.Pair.{ownSound, viewSound, channelSound, pairSound}
-use Rattle.protocol.specs.Holds.{heightHolds, messageHolds, notInBoth, setsHold, isEmpty, ownHolds, viewHolds, channelHolds, pairHolds, nodeHolds, sound}
+use Rattle.protocol.specs.Holds.{heightHolds, messageHolds, notInBoth, setsHold, isEmpty, ownHolds, viewHolds, channelHolds, pairHolds, sound}
 use Rattle.protocol.specs.Network.{Node, Message, Network, upTo, capacity}
 use Rattle.protocol.proofs.Ranges.{zero-height}
 use Rattle.refusal.specs.Refusal.{why}
@@ -204,8 +204,8 @@ no-fault-from s n u (suc k) l h f =
 
 module _ (n : ℕ) (p : Network) (ok : Storable n p) (holds : sound n p ≡ true) (low : 1 ≤ n) (few : n ≤ 16) where
   at : (u v : ℕ) → Node n u → Node n v → pairHolds n p u v ≡ true
-  unfolding sound nodeHolds
-  at u v a b = every-at n (pairHolds n p u) (every-at n (nodeHolds n p) holds u (a .low) (a .high)) v (b .low) (b .high)
+  unfolding sound
+  at u v a b = every-pair-at n (pairHolds n p) holds u (a .low) (a .high) v (b .low) (b .high)
 
   place-back : (u v : ℕ) → Node n u → Node n v → pairAt n (tablesOf n p) u v ≡ true
   unfolding pairAt pairSound pairHolds

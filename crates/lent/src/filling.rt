@@ -1,9 +1,10 @@
 // The fresh network written into tables of the right sizes.
 ghost use mathlib.Core.Path.{_≡_};
-ghost use Rattle.height.specs.Words.{Negated};
+ghost use Rattle.height.specs.inner.Stored.{Negated};
 ghost use Rattle.protocol.specs.Network.{fresh, freshHeight};
 ghost use Rattle.tables.specs.Load.{tablesOf};
-ghost use Rattle.tables.specs.Tables.{given, atExit, Sized};
+ghost use Rattle.tables.specs.Tables.{atExit};
+ghost use Rattle.tables.specs.inner.Fit.{given, Sized};
 use height::Height;
 use height::Time;
 

@@ -1,7 +1,8 @@
 // The soundness check: every pair of the tables, and the first that is at fault.
 ghost use mathlib.Core.Path.{_≡_};
 ghost use Rattle.protocol.specs.Network.{Node};
-ghost use Rattle.tables.specs.Tables.{given, atEntry, Sized};
+ghost use Rattle.tables.specs.Tables.{atEntry};
+ghost use Rattle.tables.specs.inner.Fit.{given, Sized};
 ghost use Rattle.lent.specs.Check.{saidCheck, pairAt, firstFault};
 use super::Checked;
 use refusal::Refusal;

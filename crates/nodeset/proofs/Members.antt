@@ -10,7 +10,8 @@ use lib.Count.{ones, ones-step}
 use lib.Dec.{eqb, leb}
 use lib.Pow.{pow-mono, pow-pos, shr-shr}
 use borrow.Author.Tests.{ltb-true, lt-ltb, leb-true, leb-false, eqb-true, eqb-false, eq-eqb, ne-eqb}
-use Rattle.nodeset.specs.NodeSet.{member, digit, setOf, sizeOf, apart, within}
+use Rattle.nodeset.specs.NodeSet.{member, digit, setOf, within}
+use Rattle.nodeset.specs.inner.Operations.{sizeOf, apart}
 
 -- ---- the lowest bit is node 1, and the half has the others, one lower
 

@@ -1,7 +1,7 @@
 -- Sets of nodes as numbers: document 01, "What a station holds", station k at the bit worth 2 to the power k - 1.
 -- `member` reads a set, `setOf` makes one; every contract of the crate is an equation with these two.
 use Prim.Native.Nat.{ℕ, zero, suc, _+_, _*_, _/_, _%_, _^_}
-use mathlib.Core.Bool.{Bool, true, false, not, cond, _&&_, _||_}
+use mathlib.Core.Bool.{Bool, true, false}
 use lib.Dec.{eqb, ltb}
 
 -- node k is in the set s; node 0 is in none
@@ -19,35 +19,6 @@ unfoldable pub setOf : ℕ → (ℕ → Bool) → ℕ
 setOf zero f = 0
 setOf (suc n) f = digit (f 1) + 2 * setOf n (λ k. f (suc k))
 
--- how many of 1 to n pass the test
-unfoldable pub sizeOf : ℕ → (ℕ → Bool) → ℕ
-sizeOf zero f = 0
-sizeOf (suc n) f = digit (f 1) + sizeOf n (λ k. f (suc k))
-
-unfoldable pub sameNode : ℕ → ℕ → Bool
-sameNode k j = eqb j k
-
-unfoldable pub inEither : (ℕ → Bool) → (ℕ → Bool) → ℕ → Bool
-inEither f g j = f j || g j
-
-unfoldable pub inButNot : (ℕ → Bool) → (ℕ → Bool) → ℕ → Bool
-inButNot f g j = f j && not (g j)
-
--- no node of 1 to n passes both tests
-unfoldable pub apart : ℕ → (ℕ → Bool) → (ℕ → Bool) → Bool
-apart zero f g = true
-apart (suc n) f g = not (f (suc n) && g (suc n)) && apart n f g
-
 -- no bit above node n is set
 unfoldable pub within : ℕ → ℕ → Bool
 within n s = ltb s (2 ^ n)
-
--- the least of the k nodes from v on that passes the test, or v + k where none does
-unfoldable pub leastFrom : ℕ → ℕ → (ℕ → Bool) → ℕ
-leastFrom zero v f = v
-leastFrom (suc k) v f = cond (f v) v (leastFrom k (suc v) f)
-
--- the lowest node of a set of nodes 1 to 16, or 17
-unfoldable pub lowest : ℕ → ℕ
-unfolding leastFrom
-lowest s = leastFrom 16 1 (member s)

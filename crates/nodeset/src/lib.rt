@@ -2,7 +2,8 @@
 // Every function takes any number; a node number outside 1 to 16 is in no set.
 ghost use mathlib.Core.Path.{_≡_};
 ghost use lib.Count.{ones};
-ghost use Rattle.nodeset.specs.NodeSet.{member, setOf, sameNode, inEither, inButNot, apart, within, lowest};
+ghost use Rattle.nodeset.specs.NodeSet.{member, setOf, within};
+ghost use Rattle.nodeset.specs.inner.Operations.{sameNode, inEither, inButNot, apart, lowest};
 
 // The set of node k alone.
 pub fn single(k: u32) -> u16

@@ -10,16 +10,16 @@ use lib.ListN.{length}
 use borrow.Author.Tests.{eq-eqb, ne-eqb, le-leb}
 use Rattle.basics.specs.Functions.{all}
 use Rattle.basics.proofs.AllOf.{AllOf, more}
-use Rattle.basics.proofs.FunctionsLaws.{every-all}
+use Rattle.basics.proofs.FunctionsLaws.{every-all, every-pair-all}
 use Rattle.basics.proofs.Tests.{Choice, yes!, no!, choice, SameOrNot, equal?, and-both}
 use Rattle.height.specs.Clock.{lastTime}
 use Rattle.height.specs.Height.{heightKey, zeroHeight}
 use Rattle.height.specs.Order.{same}
 use Rattle.height.specs.declared.Height.{Height}
 use Rattle.height.proofs.OrderLaws.{same-refl}
-use Rattle.protocol.specs.Holds.{heightHolds, messageHolds, notInBoth, setsHold, isEmpty, ownHolds, viewHolds, channelHolds, pairHolds, nodeHolds, sound}
+use Rattle.protocol.specs.Holds.{heightHolds, messageHolds, notInBoth, setsHold, isEmpty, ownHolds, viewHolds, channelHolds, pairHolds, sound}
 use Rattle.protocol.specs.Network.{Node, Message, Network, upTo, capacity}
-use Rattle.protocol.specs.Times.{timesWithin, messageTimely, pairTimely, nodeTimely, timely}
+use Rattle.protocol.specs.Times.{timesWithin, messageTimely, pairTimely, timely}
 use Rattle.protocol.proofs.Channels.{empty-is}
 use Rattle.protocol.proofs.Invariant.{PostedBy, Inv}
 use Rattle.protocol.proofs.Ranges.{negated-le, height-holds}
@@ -89,22 +89,20 @@ module _ (n : ℕ) (p : Network) (fits : Fits n p) where
       idle (yes! i) = rw i
       idle (no! i) = rw i (empty-is (p .channel u v) (fits .idle u v i))
 
-  place-holds : (u v : ℕ) → Node n u → pairHolds n p u v ≡ true
+  pair-holds : (u v : ℕ) → Node n u → pairHolds n p u v ≡ true
   unfolding pairHolds
-  place-holds u v node = go (equal? u v)
+  pair-holds u v node = go (equal? u v)
     where
       go : SameOrNot u v → cond (eqb u v) (ownHolds n p u) (viewHolds n p u v && channelHolds n p u v) ≡ true
       go (inl e) = rw (eq-eqb u v e) (own-holds u node)
       go (inr d) = rw (ne-eqb u v d) (and-both (view-holds u v d) (channel-holds u v))
 
   pub sound-holds : sound n p ≡ true
-  unfolding sound nodeHolds
-  sound-holds =
-      every-all n (nodeHolds n p) (λ u l k. every-all n (pairHolds n p u) (λ v i j. place-holds u v (record { low = l; high = k })))
+  unfolding sound
+  sound-holds = every-pair-all n (pairHolds n p) (λ u l k v i j. pair-holds u v (record { low = l; high = k }))
 
 pub timely-holds : (n : ℕ) (p : Network) → Inv n p → Fits n p → timely n p ≡ true
-unfolding timely nodeTimely pairTimely
+unfolding timely pairTimely
 timely-holds n p inv fits =
-    every-all n (nodeTimely n p) (λ u l k. every-all n (pairTimely p u)
-    (λ v i j. and-both (within (p .clock u) (p .height u v) (inv .nodes u .times v))
-    (messages-timely u (p .clock u) (p .channel u v) (inv .posted u v))))
+    every-pair-all n (pairTimely p) (λ u l k v i j. and-both (within (p .clock u) (p .height u v) (inv .nodes u .times v))
+    (messages-timely u (p .clock u) (p .channel u v) (inv .posted u v)))

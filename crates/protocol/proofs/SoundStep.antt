@@ -11,11 +11,11 @@ use lib.ListN.{length}
 use borrow.Author.Tests.{eq-eqb, ne-eqb, leb-true, not-true}
 use Rattle.basics.specs.Functions.{every, all}
 use Rattle.basics.proofs.AllOf.{AllOf, none, more}
-use Rattle.basics.proofs.FunctionsLaws.{every-at}
+use Rattle.basics.proofs.FunctionsLaws.{every-at, every-pair-at}
 use Rattle.basics.proofs.Tests.{clash, Choice, yes!, no!, choice, SameOrNot, equal?, and-left, and-right}
 use Rattle.height.specs.Clock.{lastTime}
 use Rattle.height.specs.Height.{zeroHeight}
-use Rattle.protocol.specs.Holds.{heightHolds, messageHolds, notInBoth, setsHold, isEmpty, ownHolds, viewHolds, channelHolds, pairHolds, nodeHolds, sound}
+use Rattle.protocol.specs.Holds.{heightHolds, messageHolds, notInBoth, setsHold, isEmpty, ownHolds, viewHolds, channelHolds, pairHolds, sound}
 use Rattle.protocol.specs.Network.{Node, Message, Network, isNode, upTo, capacity, fresh, atNodes, atPairs, restrict}
 use Rattle.protocol.specs.Refusal.{accepts, next}
 use Rattle.protocol.specs.Step.{Event, step}
@@ -141,8 +141,8 @@ module _ (n : ℕ) (p : Network) (inside : restrict n p ≡ p) (holds : sound n 
   -- at the nodes
 
   at : (u v : ℕ) → Node n u → Node n v → pairHolds n p u v ≡ true
-  unfolding sound nodeHolds
-  at u v a b = every-at n (pairHolds n p u) (every-at n (nodeHolds n p) holds u (a .low) (a .high)) v (b .low) (b .high)
+  unfolding sound
+  at u v a b = every-pair-at n (pairHolds n p) holds u (a .low) (a .high) v (b .low) (b .high)
 
   own-at : (u : ℕ) → Node n u → ownHolds n p u ≡ true
   unfolding pairHolds

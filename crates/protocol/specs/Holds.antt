@@ -7,7 +7,7 @@ use lib.Dec.{eqb, leb}
 use lib.IntN.{ℤ, pos, negsuc, negℤ}
 use lib.ListN.{length}
 use lib.Signed.{leZ}
-use Rattle.basics.specs.Functions.{every, all}
+use Rattle.basics.specs.Functions.{every, everyPair, all}
 use Rattle.height.specs.Clock.{lastTime}
 use Rattle.height.specs.Height.{heightKey, zeroHeight}
 use Rattle.height.specs.Order.{same}
@@ -76,9 +76,6 @@ channelHolds n p u v =
 unfoldable pub pairHolds : ℕ → Network → ℕ → ℕ → Bool
 pairHolds n p u v = cond (eqb u v) (ownHolds n p u) (viewHolds n p u v && channelHolds n p u v)
 
-unfoldable pub nodeHolds : ℕ → Network → ℕ → Bool
-nodeHolds n p u = every n (pairHolds n p u)
-
 -- the network breaks no rule
 unfoldable pub sound : ℕ → Network → Bool
-sound n p = every n (nodeHolds n p)
+sound n p = everyPair n (pairHolds n p)

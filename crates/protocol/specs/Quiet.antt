@@ -2,15 +2,12 @@
 -- The same as by the history (crate `calls`, proofs/Leaders.antt).
 use Prim.Native.Nat.{ℕ}
 use mathlib.Core.Bool.{Bool, _&&_, Bool·beq}
-use Rattle.basics.specs.Functions.{every}
+use Rattle.basics.specs.Functions.{everyPair}
 use Rattle.protocol.specs.Holds.{isEmpty}
 use Rattle.protocol.specs.Network.{Network, upTo}
 
 unfoldable pub pairQuiet : Network → ℕ → ℕ → Bool
 pairQuiet p u v = isEmpty (p .channel u v) && Bool·beq (upTo p u v) (upTo p v u)
 
-unfoldable pub nodeQuiet : ℕ → Network → ℕ → Bool
-nodeQuiet n p u = every n (pairQuiet p u)
-
 unfoldable pub quiet : ℕ → Network → Bool
-quiet n p = every n (nodeQuiet n p)
+quiet n p = everyPair n (pairQuiet p)

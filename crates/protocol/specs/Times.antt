@@ -5,7 +5,7 @@ use mathlib.Core.Bool.{Bool, _&&_}
 use lib.Dec.{leb}
 use lib.IntN.{pos, negℤ}
 use lib.Signed.{leZ}
-use Rattle.basics.specs.Functions.{every, all}
+use Rattle.basics.specs.Functions.{everyPair, all}
 use Rattle.height.specs.declared.Height.{Height}
 use Rattle.protocol.specs.Network.{Message, Network}
 
@@ -20,8 +20,5 @@ messageTimely c m = leb (m .timestamp) c && timesWithin (m .timestamp) (m .heigh
 unfoldable pub pairTimely : Network → ℕ → ℕ → Bool
 pairTimely p u v = timesWithin (p .clock u) (p .height u v) && all (messageTimely (p .clock u)) (p .channel u v)
 
-unfoldable pub nodeTimely : ℕ → Network → ℕ → Bool
-nodeTimely n p u = every n (pairTimely p u)
-
 unfoldable pub timely : ℕ → Network → Bool
-timely n p = every n (nodeTimely n p)
+timely n p = everyPair n (pairTimely p)

@@ -6,7 +6,7 @@ use mathlib.Core.Bool.{true}
 use mathlib.Core.List.{List, [], _∷_, _++_, map}
 use mathlib.Core.Path.{_≡_, refl}
 use lib.ListN.{set, replicate}
-use Rattle.basics.specs.Functions.{every, all, update}
+use Rattle.basics.specs.Functions.{every, everyPair, all, update}
 use Rattle.bits.specs.Bits.{bits, number, unpacked, packed, field, spread, gathered}
 use Rattle.calls.specs.Component.{Quiescent, OneLeader}
 use Rattle.calls.specs.History.{Entry, entry, upIn, waiting}
@@ -16,7 +16,8 @@ use Rattle.height.specs.Height.{zeroLevel, levelKey, pairKey, heightKey}
 use Rattle.height.specs.Order.{before, same}
 use Rattle.height.specs.Words.{deltaOf, deltaWord, heightWords, heightAt}
 use Rattle.image.specs.Image.{headerBits, nodeBits, messageBits, channelBits, channelsBits, networkBits, padded, bytesOf, imageOf, image}
-use Rattle.image.specs.Places.{channelsNext, channelsPlace, channelsFromPlace, channelPlace, imageEnd, recordsIn, tablesIn}
+use Rattle.image.specs.Places.{channelsNext, channelsPlace, channelsFromPlace, channelPlace, recordsIn, tablesIn}
+use Rattle.image.specs.inner.Parts.{imageEnd}
 use Rattle.image.specs.Places.{fieldIn, nodePlace, heightFrom, messagesOf, channelFrom, walked, channelNext}
 use Rattle.image.specs.Widths.{recordBits, extendedOf, recordOf, heightWidth, messageWidth, nodeWidth}
 use Rattle.image_reading.specs.Examine.{afterWalk, examined}
@@ -30,7 +31,7 @@ use Rattle.pairs.specs.Pair.{ownSound, viewSound, channelSound, pairSound}
 use Rattle.protocol.specs.Answer.{carriedOut, saidRefused}
 use Rattle.protocol.specs.Holds.{levelHolds, deltaHolds, leaderPairHolds, heightHolds, messageHolds, notInBoth, setsHold}
 use Rattle.protocol.specs.Network.{Node, own}
-use Rattle.protocol.specs.Quiet.{pairQuiet, nodeQuiet, quiet}
+use Rattle.protocol.specs.Quiet.{pairQuiet, quiet}
 use Rattle.protocol.specs.Refusal.{misnamed, late, hasRoom, crowded, returned, accepts, answer, next}
 use Rattle.protocol.specs.Rules.{absent, downRule, larger, largest, deltas, ofLevel, oneLevelRule, equalPairsRule, receiptRule}
 use Rattle.protocol.specs.Sink.{above, sink}
@@ -43,8 +44,8 @@ use Rattle.tables.specs.Records.{recordsOf, rowWords, slotWords, cellWords, tab
 use Rattle.tables.specs.Row.{heightIn}
 use Rattle.tables.specs.Rows.{rowAt, rows}
 use Rattle.tables.specs.Tables.{Tables, sized}
-use Rattle.runs.specs.OnTables.{Reply, toEvent, toSave, toRestore, putOut, onTables, freshTables, after, Allowed}
-use Rattle.runs.specs.OnTables.{reply, tablesAfter, replies}
+use Rattle.runs.specs.OnTables.{tablesAfter, putOut, onTables, freshTables, after, Allowed}
+use Rattle.runs.specs.inner.Replies.{Reply, toEvent, toSave, toRestore, reply, replies}
 use Rattle.runs.proofs.AllowedLists.{refused-allowed}
 use Rattle.runs.proofs.Demand3.{tablesAt, networkAt, historyAfter, Resumed, Demand3, demand-3}
 use Rattle.runs.proofs.Lists.{fair-append, plain-fair}
@@ -166,12 +167,12 @@ unfolding bits number unpacked packed field spread gathered stepAt stepChecked s
     deltaWord heightWords heightAt headerBits nodeBits messageBits channelBits channelsBits networkBits padded bytesOf imageOf image fieldIn
     heightFrom messagesOf channelFrom walked channelNext channelsNext channelsPlace channelsFromPlace channelPlace imageEnd recordsIn
     tablesIn recordsOf rowWords slotWords cellWords tablesFrom recordBits extendedOf recordOf heightWidth messageWidth nodeWidth pairAt
-    faultInRow faultFrom firstFault checkOn member setOf within ownSound viewSound channelSound pairSound every all update levelHolds
+    faultInRow faultFrom firstFault checkOn member setOf within ownSound viewSound channelSound pairSound every everyPair all update levelHolds
     deltaHolds leaderPairHolds heightHolds messageHolds notInBoth setsHold misnamed late hasRoom crowded returned accepts answer next absent
     downRule larger largest deltas ofLevel oneLevelRule equalPairsRule receiptRule above sink carried localUp localDown localIgnored
     localTaken post commit step afterWalk examined headerHolds headerOf channelStep onward steps channelsFromWalk channelsWalk walk endsAt
     restoreExamined restoreOf restoreHeaded restoreOn putFront saveChecked saveOn messageAt messagesAt queue allZero messageWords
-    load tablesOf heightIn rowAt rows sized reply tablesAfter nodePlace pairQuiet nodeQuiet quiet
+    load tablesOf heightIn rowAt rows sized reply tablesAfter nodePlace pairQuiet quiet
 computed = record {
   answered = refl;
   saves-are = refl;

@@ -13,7 +13,7 @@ use Rattle.calls.specs.Run.{Call, event, save, restore, Saved, RunState, startO
 use Rattle.calls.specs.Run.{steppedTo, savedTo, act, perform, Fair, fairEvent, fairSave, fairSaved, fairRefused, AllFair}
 use Rattle.calls.proofs.Runs.{stateOf, act-sane, start-sane, Imaged}
 use Rattle.calls.proofs.SavesLaws.{found}
-use Rattle.election.specs.RunOn.{saidTo, called}
+use Rattle.election.specs.inner.Meant.{saidTo, called}
 use Rattle.election.specs.StepOn.{stepOn}
 use Rattle.election.proofs.RunLaws.{not-sized, one-call}
 use Rattle.image_snapshot.specs.Restore.{restoreOn}

@@ -9,7 +9,8 @@ use Rattle.protocol.specs.Network.{Network, fresh}
 use Rattle.refusal.specs.Outcome.{Outcome}
 use Rattle.tables.specs.Load.{load, tablesOf}
 use Rattle.tables.specs.Tables.{Tables}
-use Rattle.runs.specs.OnTables.{Reply, toEvent, toSave, reply, tablesAfter, tablesAfterAll, replies, onTables, freshTables, then, after, Allowed}
+use Rattle.runs.specs.OnTables.{tablesAfter, tablesAfterAll, onTables, freshTables, then, after, Allowed}
+use Rattle.runs.specs.inner.Replies.{Reply, toEvent, toSave, reply, replies}
 use Rattle.runs.specs.inner.ByMeaning.{byMeaning, replyTo, repliesTo}
 use Rattle.runs.proofs.ImageBack.{SaneRun}
 use Rattle.runs.proofs.Lists.{perform-append, fair-head}

@@ -3,12 +3,11 @@
 use Prim.Native.Nat.{ℕ}
 use mathlib.Core.List.{List}
 use lib.ListN.{take}
-use Rattle.basics.specs.Functions.{afterAll, sayAll}
+use Rattle.basics.specs.Functions.{afterAll}
 use Rattle.calls.specs.Run.{Call, event, save, restore, Calls, RunState, startOfRun, act, perform, AllFair}
 use Rattle.election.specs.StepOn.{stepOn}
 use Rattle.image_snapshot.specs.Restore.{restoreOn}
 use Rattle.image_snapshot.specs.Save.{saveOn}
-use Rattle.protocol.specs.Answer.{Said}
 use Rattle.protocol.specs.Network.{fresh}
 use Rattle.refusal.specs.Outcome.{Answered, Outcome, outcome}
 use Rattle.refusal.specs.declared.Why.{Why}
@@ -17,17 +16,6 @@ use Rattle.tables.specs.Tables.{Tables}
 
 -- ---- calls one after the other
 
--- what a call answers; of a save also the lent bytes after it
-pub data Reply : Type 0 where
-  toEvent : Said → Reply
-  toSave : Outcome (Answered ℕ) (List ℕ) → Reply
-  toRestore : Why → Reply
-
-unfoldable pub reply : Tables → Call → Reply
-reply t (event m e) = toEvent (stepOn m e t .said)
-reply t (save m out) = toSave (saveOn m t out)
-reply t (restore b) = toRestore (restoreOn b t .said)
-
 unfoldable pub tablesAfter : Tables → Call → Tables
 tablesAfter t (event m e) = stepOn m e t .after
 tablesAfter t (save m out) = t
@@ -35,9 +23,6 @@ tablesAfter t (restore b) = restoreOn b t .after
 
 abbrev pub tablesAfterAll : Tables → List Call → Tables
 tablesAfterAll t cs = afterAll tablesAfter t cs
-
-abbrev pub replies : Tables → List Call → List Reply
-replies t cs = sayAll tablesAfter reply t cs
 
 -- ---- the run
 

@@ -26,7 +26,8 @@ use Rattle.tables.specs.Load.{load, tablesOf, clockAt, neighborsAt, form
 use Rattle.tables.specs.Records.{recordsOf, rowWords, slotWords, cellWords}
 use Rattle.tables.specs.Row.{clockIn, neighborsIn, formingIn, heightIn}
 use Rattle.tables.specs.Rows.{rowAt, rows}
-use Rattle.tables.specs.Tables.{Sized, width, nodeOf, channelOf}
+use Rattle.tables.specs.Tables.{width, nodeOf, channelOf}
+use Rattle.tables.specs.inner.Fit.{Sized}
 use Rattle.tables.proofs.CellLaws.{messages-moved}
 use Rattle.tables.proofs.RecordsLaws.{words-length, message-length, network-shaped, length-row, made-sized, node-from, channel-from}
 use Rattle.tables.proofs.RowLaws.{height-past}

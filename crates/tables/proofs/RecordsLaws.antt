@@ -17,7 +17,8 @@ use Rattle.protocol.specs.Network.{Node, Message, Network}
 use Rattle.tables.specs.Cell.{messageWords}
 use Rattle.tables.specs.Records.{Records, recordsOf, rowWords, slotWords, cellWords, tablesFrom}
 use Rattle.tables.specs.Rows.{rows, rowAt}
-use Rattle.tables.specs.Tables.{Tables, Sized, tables, width, cellWidth, nodeOf, channelOf}
+use Rattle.tables.specs.Tables.{Tables, tables, width, cellWidth, nodeOf, channelOf}
+use Rattle.tables.specs.inner.Fit.{Sized}
 use Rattle.tables.proofs.RowsMore.{rows-same, length-rows, rows-at}
 use Rattle.tables.proofs.WordRuns.{row-in}
 

@@ -11,13 +11,15 @@ use Rattle.basics.specs.Functions.{update}
 use Rattle.basics.proofs.FunctionsLaws.{update-at, update-off}
 use Rattle.basics.proofs.Tests.{equal?}
 use Rattle.height.specs.Height.{zeroHeight}
-use Rattle.height.specs.Words.{heightAt, heightWords, storedAt, deltaOf}
+use Rattle.height.specs.Words.{heightAt, heightWords, deltaOf}
+use Rattle.height.specs.inner.Stored.{storedAt}
 use Rattle.height.specs.declared.Height.{Height}
 use Rattle.height.proofs.WordsLaws.{same-words, load-stored, load-before, load-past, stored-before, stored-past, stored-length, sets-in}
 use Rattle.nodeset.specs.NodeSet.{member, setOf}
 use Rattle.nodeset.proofs.Members.{setOf-member}
 use Rattle.protocol.specs.Network.{Node}
-use Rattle.tables.specs.Row.{clockIn, neighborsIn, formingIn, heightIn, putHeight, withHead}
+use Rattle.tables.specs.Row.{clockIn, neighborsIn, formingIn, heightIn}
+use Rattle.tables.specs.inner.Written.{putHeight, withHead}
 use Rattle.tables.specs.Rows.{rowAt, rows}
 use Rattle.tables.specs.Tables.{width}
 use Rattle.tables.specs.inner.Fit.{RowFits}

@@ -8,12 +8,16 @@ use native.Mathlib.Omega.{arith}
 use native.Mathlib.Decide.{decLt}
 use lib.ListN.{length, getD, take, drop, length-append, length-take, length-drop, take-append-drop, List·getD-append}
 use lib.Seq.{length-take-le, take-all, take-at, drop-at, getD-take, getD-drop, getD-append-add, ext-getD}
-use Rattle.height.specs.Words.{heightAt, storedAt}
+use Rattle.height.specs.Words.{heightAt}
+use Rattle.height.specs.inner.Stored.{storedAt}
 use Rattle.height.specs.declared.Height.{Height}
 use Rattle.protocol.specs.Network.{Node}
-use Rattle.tables.specs.Row.{heightIn, putHeight}
-use Rattle.tables.specs.Rows.{part, putPart, rowAt, putRow}
-use Rattle.tables.specs.Tables.{width, cellWidth, nodeOf, putNode, pairOf, channelOf, putChannel}
+use Rattle.tables.specs.Row.{heightIn}
+use Rattle.tables.specs.inner.Written.{putHeight}
+use Rattle.tables.specs.Rows.{part, rowAt}
+use Rattle.tables.specs.inner.Written.{putPart, putRow}
+use Rattle.tables.specs.Tables.{width, cellWidth, nodeOf, pairOf, channelOf}
+use Rattle.tables.specs.inner.Written.{putNode, putChannel}
 
 -- ---- parts
 

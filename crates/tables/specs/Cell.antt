@@ -1,13 +1,12 @@
 -- A channel's cell: the count, then eight slots of a height and its timestamp, oldest first; unused slots are zero.
-use Prim.Native.Nat.{ℕ, zero, suc, _+_, _-_, _*_}
+use Prim.Native.Nat.{ℕ, zero, suc, _+_, _*_}
 use mathlib.Core.Bool.{Bool, true, _&&_}
 use mathlib.Core.List.{List, [], _∷_, _++_}
 use lib.Dec.{eqb}
-use lib.ListN.{getD, set, drop, replicate}
-use Rattle.height.specs.Words.{heightAt, heightWords, storedAt}
-use Rattle.height.specs.declared.Height.{Height}
+use lib.ListN.{getD}
+use Rattle.height.specs.Words.{heightAt, heightWords}
 use Rattle.protocol.specs.Network.{Message}
-use Rattle.tables.specs.Tables.{heightSize, messageSize, cellWidth}
+use Rattle.tables.specs.Tables.{heightSize, messageSize}
 
 abbrev pub count : List ℕ → ℕ
 count cell = getD cell 0 0
@@ -28,20 +27,6 @@ messagesAt (suc k) ws i = messageAt ws i ∷ messagesAt k ws (i + messageSize)
 -- the messages of a cell
 unfoldable pub queue : List ℕ → List Message
 queue cell = messagesAt (count cell) cell (slot 0)
-
--- ---- what the channel operations leave
-
--- one more message, h at the clock t
-unfoldable pub appended : List ℕ → Height → ℕ → List ℕ
-appended cell h t = set (set (storedAt cell (slot (count cell)) h) (slot (count cell) + heightSize) t) 0 (count cell + 1)
-
--- without the first message: the others move up one slot, and the slot that is free is zero
-unfoldable pub taken : List ℕ → List ℕ
-taken cell = (count cell - 1) ∷ (drop (slot 1) cell ++ replicate messageSize 0)
-
--- without messages
-abbrev pub emptied : List ℕ
-emptied = replicate cellWidth 0
 
 -- every word is zero
 unfoldable pub allZero : List ℕ → Bool

@@ -1,9 +1,9 @@
 -- A node's row: clock, linked set N, forming set F, then the heights of nodes 1 to n, its own and its views.
 use Prim.Native.Nat.{ℕ, zero, suc, _+_, _*_}
 use mathlib.Core.List.{List}
-use lib.ListN.{getD, set}
+use lib.ListN.{getD}
 use Rattle.height.specs.Height.{zeroHeight}
-use Rattle.height.specs.Words.{heightAt, storedAt}
+use Rattle.height.specs.Words.{heightAt}
 use Rattle.height.specs.declared.Height.{Height}
 use Rattle.tables.specs.Tables.{rowHead, heightSize}
 
@@ -20,11 +20,3 @@ formingIn row = getD row 2 0
 unfoldable pub heightIn : List ℕ → ℕ → Height
 heightIn row zero = zeroHeight
 heightIn row (suc k) = heightAt row (rowHead + k * heightSize)
-
-unfoldable pub putHeight : List ℕ → ℕ → Height → List ℕ
-putHeight row zero h = row
-putHeight row (suc k) h = storedAt row (rowHead + k * heightSize) h
-
--- the row with this clock and these sets
-unfoldable pub withHead : List ℕ → ℕ → ℕ → ℕ → List ℕ
-withHead row clock N F = set (set (set row 0 clock) 1 N) 2 F

@@ -1,15 +1,14 @@
 -- The two lent tables: n rows, a node each, and n times n cells, a channel each.
 -- The cells from a node to itself are unused.
-use Prim.Native.Nat.{ℕ, _+_, _-_, _*_, _≤_}
+use Prim.Native.Nat.{ℕ, _+_, _-_, _*_}
 use mathlib.Core.Bool.{Bool, _&&_}
 use mathlib.Core.List.{List}
-use mathlib.Core.Path.{_≡_}
 use lib.Dec.{eqb, leb}
 use lib.ListN.{length}
 use denote.Ref.{RefT}
 use denote.Triple.Both.{Both}
 use Rattle.protocol.specs.Network.{capacity}
-use Rattle.tables.specs.Rows.{rowAt, putRow}
+use Rattle.tables.specs.Rows.{rowAt}
 
 pub record Tables : Type 0 where
   pub nodes : List ℕ
@@ -18,10 +17,7 @@ pub record Tables : Type 0 where
 abbrev pub tables : List ℕ → List ℕ → Tables
 tables ns cs = record { nodes = ns; channels = cs }
 
--- the tables as they are lent, as they were at entry, as they are left
-abbrev pub given : RefT (List ℕ) → RefT (List ℕ) → Tables
-given nodes channels = tables (nodes .now) (channels .now)
-
+-- lent tables as they were at entry, as they are left
 abbrev pub atEntry : {E F : Type 0} → Both (RefT (List ℕ)) E → Both (RefT (List ℕ)) F → Tables
 atEntry nodes channels = tables (nodes .entry .now) (channels .entry .now)
 
@@ -52,18 +48,9 @@ unfoldable pub sized : ℕ → Tables → Bool
 sized n t =
     leb n 16 && (leb 1 n && eqb (length (t .nodes)) (n * width n) && eqb (length (t .channels)) (n * n * cellWidth))
 
-pub record Sized (n : ℕ) (t : Tables) : Type 0 where
-  pub low : 1 ≤ n
-  pub few : n ≤ 16
-  pub nodes : length (t .nodes) ≡ n * width n
-  pub channels : length (t .channels) ≡ n * n * cellWidth
-
 -- node u's row
 abbrev pub nodeOf : ℕ → ℕ → List ℕ → List ℕ
 nodeOf n u ns = rowAt (width n) (u - 1) ns
-
-abbrev pub putNode : ℕ → ℕ → List ℕ → List ℕ → List ℕ
-putNode n u row ns = putRow (width n) (u - 1) row ns
 
 -- the cell of channel u to v
 abbrev pub pairOf : ℕ → ℕ → ℕ → ℕ
@@ -71,6 +58,3 @@ pairOf n u v = (u - 1) * n + (v - 1)
 
 abbrev pub channelOf : ℕ → ℕ → ℕ → List ℕ → List ℕ
 channelOf n u v cs = rowAt cellWidth (pairOf n u v) cs
-
-abbrev pub putChannel : ℕ → ℕ → ℕ → List ℕ → List ℕ → List ℕ
-putChannel n u v cell cs = putRow cellWidth (pairOf n u v) cell cs

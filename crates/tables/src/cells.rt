@@ -3,9 +3,10 @@
 ghost use mathlib.Core.Path.{_≡_};
 ghost use Prim.Native.Nat.{_≤_, _<_};
 ghost use lib.ListN.{length, replicate, drop};
-ghost use Rattle.height.specs.Words.{Negated};
+ghost use Rattle.height.specs.inner.Stored.{Negated};
 ghost use Rattle.protocol.specs.Network.{capacity};
-ghost use Rattle.tables.specs.Cell.{count, slot, messageAt, appended, taken, emptied, allZero};
+ghost use Rattle.tables.specs.Cell.{count, slot, messageAt, allZero};
+ghost use Rattle.tables.specs.inner.Written.{appended, taken, emptied};
 ghost use Rattle.tables.specs.Tables.{cellWidth};
 use super::CELL_WIDTH;
 use super::HEIGHT_SIZE;

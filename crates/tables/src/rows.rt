@@ -2,9 +2,10 @@
 ghost use mathlib.Core.Path.{_≡_};
 ghost use Prim.Native.Nat.{_+_, _-_, _*_, _≤_, _<_};
 ghost use lib.ListN.{length};
-ghost use Rattle.height.specs.Words.{Negated};
+ghost use Rattle.height.specs.inner.Stored.{Negated};
 ghost use Rattle.protocol.specs.Network.{Node};
-ghost use Rattle.tables.specs.Row.{clockIn, neighborsIn, formingIn, heightIn, putHeight, withHead};
+ghost use Rattle.tables.specs.Row.{clockIn, neighborsIn, formingIn, heightIn};
+ghost use Rattle.tables.specs.inner.Written.{putHeight, withHead};
 ghost use Rattle.tables.specs.Tables.{rowHead, width, cellWidth, nodeOf, pairOf, channelOf};
 use super::CELL_WIDTH;
 use super::HEIGHT_SIZE;

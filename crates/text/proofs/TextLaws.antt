@@ -10,7 +10,8 @@ use lib.Dec.{ltb}
 use borrow.Author.Tests.{lt-ltb, le-ltb, ltb-true, ltb-false}
 use lib.ListN.{length, take, drop, getD, set, length-append, length-set, length-take}
 use lib.Seq.{take-suc}
-use Rattle.text.specs.Text.{poured, digits, decimal}
+use Rattle.text.specs.Text.{digits, decimal}
+use Rattle.text.specs.inner.Poured.{poured}
 
 -- ---- pouring
 -- two parts are poured one after the other

@@ -1,2 +1,3 @@
 -- Text in lent bytes.
 pub mod Text
+pub mod inner

@@ -1,14 +1,8 @@
--- Text in ASCII: bytes poured into lent bytes one after the other, as far as they fit, and decimal numbers.
+-- Numbers as text in ASCII.
 use Prim.Native.Nat.{ℕ, zero, suc, _+_, _/_, _%_}
 use mathlib.Core.Bool.{cond}
 use mathlib.Core.List.{List, [], _∷_, _++_}
 use lib.Dec.{ltb}
-use lib.ListN.{set}
-
--- bs poured into the bytes from a place on; what stands behind their end is lost
-unfoldable pub poured : List ℕ → ℕ → List ℕ → List ℕ
-poured out at [] = out
-poured out at (b ∷ bs) = poured (set out at b) (suc at) bs
 
 -- at most k decimal digits of x, without a leading zero
 unfoldable pub digits : ℕ → ℕ → List ℕ

@@ -6,7 +6,8 @@ use mathlib.Core.Path.{_≡_, refl, ap, _∙_}
 use native.Mathlib.Nat.{mod-lt}
 use lib.Pow.{pow-pos}
 use lib.ListN.{length, getD, length-set}
-use Rattle.bits.specs.Bits.{bits, unpacked, over}
+use Rattle.bits.specs.Bits.{bits, unpacked}
+use Rattle.bits.specs.inner.Written.{over}
 use Rattle.bits.proofs.Numbers.{Below, below-set}
 use Rattle.bits.proofs.Turns.{put-turn, put-none, put-all}
 use Rattle.bits.proofs.put_by_bytes.Statement.{statement}

@@ -5,7 +5,8 @@ use mathlib.Core.Path.{_≡_, ap, ap₂, _∙_}
 use mathlib.Core.List.{List}
 use lib.ListN.{length, getD}
 use borrow.Author.Needs.{needs}
-use Rattle.bits.specs.Bits.{bits, written}
+use Rattle.bits.specs.Bits.{bits}
+use Rattle.bits.specs.inner.Written.{written}
 use Rattle.bits.proofs.Bytes.{length-written}
 use Rattle.bits.proofs.SixtyFour.{bytes-written, bytes-machine, bytes-fit, byte-high-fits}
 use Rattle.bits.proofs.put_bytes.Statement.{statement}

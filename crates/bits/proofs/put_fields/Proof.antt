@@ -1,7 +1,7 @@
 -- `bits::put_fields` meets its contract: the bits of the fields are those of what they are packed into.
 use mathlib.Core.Path.{sym, ap, _∙_}
 use borrow.Author.Needs.{needs}
-use Rattle.bits.specs.Bits.{written}
+use Rattle.bits.specs.inner.Written.{written}
 use Rattle.bits.proofs.put_fields.Statement.{statement}
 use Rattle.bits.proofs.put_fields.Tie as tie
 

@@ -6,7 +6,8 @@ use mathlib.Core.Path.{ap, _∙_}
 use lib.ListN.{getD}
 use lib.Pow.{pow-pos}
 use borrow.Author.Needs.{needs}
-use Rattle.bits.specs.Bits.{bits, over}
+use Rattle.bits.specs.Bits.{bits}
+use Rattle.bits.specs.inner.Written.{over}
 use Rattle.bits.proofs.SixtyFour.{first-written}
 use Rattle.bits.proofs.put_first.Statement.{statement}
 use Rattle.bits.proofs.put_first.Tie as tie

@@ -5,7 +5,8 @@ use mathlib.Core.List.{List}
 use mathlib.Core.Path.{ap, _∙_}
 use lib.ListN.{length}
 use borrow.Author.Needs.{needs}
-use Rattle.bits.specs.Bits.{bits, written}
+use Rattle.bits.specs.Bits.{bits}
+use Rattle.bits.specs.inner.Written.{written}
 use Rattle.bits.proofs.Bytes.{length-written}
 use Rattle.bits.proofs.SixtyFour.{bits-low, long-written}
 use Rattle.bits.proofs.put_long.Statement.{statement}

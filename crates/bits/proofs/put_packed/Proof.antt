@@ -4,7 +4,8 @@ use Prim.Native.Nat.{ℕ, _+_, _-_, _*_, _≤_}
 use native.Mathlib.Omega.{arith}
 use mathlib.Core.Path.{_≡_, refl, sym, ap, _∙_}
 use lib.ListN.{length}
-use Rattle.bits.specs.Bits.{bits, written, wordBits}
+use Rattle.bits.specs.Bits.{bits}
+use Rattle.bits.specs.inner.Written.{written, wordBits}
 use Rattle.bits.proofs.Bytes.{length-written, written-none}
 use Rattle.bits.proofs.Packing.{put-word, put-rest}
 use Rattle.bits.proofs.put_packed.Statement.{statement}

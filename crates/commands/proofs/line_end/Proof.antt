@@ -2,7 +2,7 @@
 use Prim.Native.Nat.{_-_}
 use borrow.Author.Needs.{needs}
 use lib.ListN.{length}
-use Rattle.commands.specs.Commands.{toNewline}
+use Rattle.commands.specs.inner.Leaves.{toNewline}
 use Rattle.commands.proofs.Seeking.{Walked, newlines, start, next, found, ended}
 use Rattle.commands.proofs.line_end.Statement.{statement}
 use Rattle.commands.proofs.line_end.Tie as tie

@@ -1,6 +1,6 @@
 -- Bounds that the leaves ask of each other: of the new height, and of the rule.
 use Prim.Native.Nat.{ℕ}
-use Rattle.height.specs.Words.{Negated}
+use Rattle.height.specs.inner.Stored.{Negated}
 use Rattle.protocol.specs.Network.{Node}
 use Rattle.protocol.specs.declared.Rule.the-variants.{ChannelUp, ElectSelf, StartNewRefLevel, NoChange, Ignored}
 use Rattle.protocol.specs.declared.Rule.the-variants.{ReflectRefLevel, PropagateLargestRefLevel, AdoptLpIfPriority, Reply}

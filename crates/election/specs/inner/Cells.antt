@@ -8,7 +8,8 @@ use lib.ListN.{length}
 use Rattle.height.specs.declared.Height.{Height}
 use Rattle.nodeset.specs.NodeSet.{member}
 use Rattle.protocol.specs.Network.{Node, capacity}
-use Rattle.tables.specs.Cell.{count, appended, taken, emptied}
+use Rattle.tables.specs.Cell.{count}
+use Rattle.tables.specs.inner.Written.{appended, taken, emptied}
 use Rattle.tables.specs.Tables.{cellWidth, channelOf}
 use Rattle.election.specs.declared.Kind.the-variants.{Raised, Dropped, Received}
 use Rattle.election.specs.declared.Kind.{Kind}

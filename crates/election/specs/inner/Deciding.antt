@@ -7,7 +7,7 @@ use Rattle.decision.specs.inner.After.{seen}
 use Rattle.decision.specs.declared.Decision.{Decision}
 use Rattle.decision.specs.inner.Bounds.{AdoptsNode}
 use Rattle.height.specs.Clock.{lastTime}
-use Rattle.height.specs.Words.{Negated}
+use Rattle.height.specs.inner.Stored.{Negated}
 use Rattle.height.specs.declared.Height.{Height}
 use Rattle.nodeset.specs.NodeSet.{member}
 use Rattle.protocol.specs.Answer.{saidRefused}
@@ -17,7 +17,7 @@ use Rattle.protocol.specs.Step.{Event, up, down, receive, Local, local, carried
 use Rattle.refusal.specs.Outcome.{outcome}
 use Rattle.refusal.specs.Refusal.{whyOf}
 use Rattle.tables.specs.Load.{load}
-use Rattle.tables.specs.Row.{putHeight, withHead}
+use Rattle.tables.specs.inner.Written.{putHeight, withHead}
 use Rattle.tables.specs.Tables.{Tables, nodeOf, channelOf}
 use Rattle.tables.specs.inner.Fit.{TablesFit}
 use Rattle.election.specs.StepOn.{stepAt}

@@ -4,13 +4,14 @@ use Prim.Native.Nat.{ℕ, _+_, _-_, _*_, _^_, _≤_, _<_}
 use mathlib.Core.List.{List, _∷_, _++_}
 use mathlib.Core.Path.{_≡_}
 use lib.ListN.{length, take, drop}
-use Rattle.bits.specs.Bits.{bits, total}
+use Rattle.bits.specs.Bits.{bits}
+use Rattle.bits.specs.inner.Written.{total}
 use Rattle.tables.specs.Cell.{count}
 use Rattle.tables.specs.Records.{cellWords}
 use Rattle.tables.specs.Row.{clockIn, neighborsIn, formingIn}
 use Rattle.tables.specs.Rows.{rows, rowAt}
 use Rattle.tables.specs.Tables.{rowHead, heightSize, messageSize}
-use Rattle.image.specs.Places.{fieldIn, channelFrom, heightsFrom}
+use Rattle.image.specs.Places.{fieldIn, channelFrom, heightsFrom, walked, channelsNext, channelsPlace}
 use Rattle.image.specs.Widths.{widthsOf, recordBits}
 
 -- ---- the bits of words
@@ -55,3 +56,7 @@ pub record RecordRun (d k w c : ℕ) (xs ws : List ℕ) (at : ℕ) : Type 0 wher
   pub few : c ≤ 16
   pub words : c * k ≤ length ws
   pub inside : Inside xs at (c * w)
+
+-- behind the last channel
+unfoldable pub imageEnd : ℕ → ℕ → ℕ → List ℕ → ℕ
+imageEnd h d n l = walked (channelsNext d n l) n (channelsPlace h d n)

@@ -6,7 +6,8 @@ use mathlib.Core.List.{List, []}
 use mathlib.Core.Path.{_≡_}
 use lib.Dec.{eqb}
 use lib.ListN.{length}
-use Rattle.image.specs.Places.{fieldIn, channelFrom, walked, channelNext, channelsNext, imageEnd, channelPlace}
+use Rattle.image.specs.Places.{fieldIn, channelFrom, walked, channelNext, channelsNext, channelPlace}
+use Rattle.image.specs.inner.Parts.{imageEnd}
 use Rattle.protocol.specs.Network.{capacity, Two}
 use Rattle.tables.specs.Records.{cellWords}
 

@@ -5,7 +5,8 @@ use mathlib.Core.Path.{_≡_, ap, _∙_}
 use mathlib.Core.Bool.{Bool, _||_}
 use lib.Bits.{bitOr, or-lt}
 use borrow.Author.Needs.{needs}
-use Rattle.nodeset.specs.NodeSet.{member, setOf, inEither}
+use Rattle.nodeset.specs.NodeSet.{member, setOf}
+use Rattle.nodeset.specs.inner.Operations.{inEither}
 use Rattle.nodeset.proofs.Members.{set-is, member-or, member-setOf, setOf-lt}
 use Rattle.nodeset.proofs.insert.Statement.{statement}
 use Rattle.nodeset.proofs.insert.Tie as tie

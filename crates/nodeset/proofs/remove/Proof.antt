@@ -5,7 +5,8 @@ use mathlib.Core.Path.{_≡_, ap, _∙_}
 use mathlib.Core.Bool.{Bool, not, _&&_}
 use lib.Bits.{bitAnd, and-le-l}
 use borrow.Author.Needs.{needs}
-use Rattle.nodeset.specs.NodeSet.{member, setOf, inButNot}
+use Rattle.nodeset.specs.NodeSet.{member, setOf}
+use Rattle.nodeset.specs.inner.Operations.{inButNot}
 use Rattle.nodeset.proofs.Members.{set-is, member-minus, member-setOf}
 use Rattle.nodeset.proofs.remove.Statement.{statement}
 use Rattle.nodeset.proofs.remove.Tie as tie

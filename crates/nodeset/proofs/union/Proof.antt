@@ -1,7 +1,7 @@
 -- `nodeset::union` meets its contract: the set of `a | b` is told by its members.
 use native.Mathlib.Omega.{arith}
 use lib.Bits.{bitOr, or-lt}
-use Rattle.nodeset.specs.NodeSet.{inEither}
+use Rattle.nodeset.specs.inner.Operations.{inEither}
 use Rattle.nodeset.proofs.Members.{set-is, member-or}
 use Rattle.nodeset.proofs.union.Statement.{statement}
 use Rattle.nodeset.proofs.union.Tie as tie

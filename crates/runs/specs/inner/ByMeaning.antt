@@ -5,14 +5,16 @@ use mathlib.Core.Bool.{cond}
 use mathlib.Core.List.{List}
 use lib.Dec.{eqb}
 use Rattle.basics.specs.Functions.{sayAll}
-use Rattle.calls.specs.Run.{Call, event, save, restore, Calls, RunState, act, meant}
+use Rattle.calls.specs.Run.{Call, event, save, restore, Calls, RunState, act}
+use Rattle.calls.specs.inner.Meant.{meant}
 use Rattle.image.specs.Image.{image}
 use Rattle.image_snapshot.specs.Restore.{restoreOn}
 use Rattle.protocol.specs.Network.{Network}
 use Rattle.refusal.specs.Outcome.{Answered, Outcome, outcome, putFront, refusedWith}
 use Rattle.refusal.specs.Refusal.{why}
 use Rattle.tables.specs.Load.{load, tablesOf}
-use Rattle.runs.specs.OnTables.{Reply, toEvent, toSave, toRestore, writing}
+use Rattle.runs.specs.OnTables.{writing}
+use Rattle.runs.specs.inner.Replies.{Reply, toEvent, toSave, toRestore}
 
 -- a save of m nodes into lent bytes: 1 for another n, else the image, or 14
 unfoldable pub saveMeant : ℕ → ℕ → List ℕ → Network → Outcome (Answered ℕ) (List ℕ)

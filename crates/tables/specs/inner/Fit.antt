@@ -4,10 +4,22 @@ use Prim.Native.Nat.{ℕ, _+_, _*_, _^_, _<_, _≤_}
 use mathlib.Core.List.{List}
 use mathlib.Core.Path.{_≡_}
 use lib.ListN.{getD, length}
+use denote.Ref.{RefT}
 use Rattle.protocol.specs.Network.{Node, capacity}
 use Rattle.tables.specs.Cell.{count}
 use Rattle.tables.specs.Row.{neighborsIn, formingIn}
-use Rattle.tables.specs.Tables.{Tables, Sized, rowHead, heightSize, messageSize, width, cellWidth, nodeOf, channelOf}
+use Rattle.tables.specs.Tables.{Tables, rowHead, heightSize, messageSize, width, cellWidth, nodeOf, channelOf, tables}
+
+-- the tables as they are lent
+abbrev pub given : RefT (List ℕ) → RefT (List ℕ) → Tables
+given nodes channels = tables (nodes .now) (channels .now)
+
+-- `sized` as facts
+pub record Sized (n : ℕ) (t : Tables) : Type 0 where
+  pub low : 1 ≤ n
+  pub few : n ≤ 16
+  pub nodes : length (t .nodes) ≡ n * width n
+  pub channels : length (t .channels) ≡ n * n * cellWidth
 
 -- a row that its numbers give back
 pub record RowFits (n : ℕ) (row : List ℕ) : Type 0 where

@@ -7,7 +7,8 @@ use mathlib.Core.Logic.{⊎-elim}
 use lib.ListN.{length}
 use borrow.Fn.Kinds.{In}
 use borrow.Fn.PlainCycle.{Measures, is, falls, and}
-use Rattle.text.specs.Text.{poured, decimal}
+use Rattle.text.specs.Text.{decimal}
+use Rattle.text.specs.inner.Poured.{poured}
 use Rattle.text.proofs.TextLaws.{length-poured, front, length-front-le, put-no-front, put-front, put-last}
 use Rattle.text.proofs.put_decimal.Reads as put-decimal
 use Rattle.text.proofs.put_decimal.Kinds as put-decimal-kinds

@@ -5,7 +5,7 @@ use mathlib.Core.Logic.{⊎-elim}
 use borrow.Author.Needs.{needs}
 use lib.ListN.{length}
 use lib.Seq.{set-out}
-use Rattle.text.specs.Text.{poured}
+use Rattle.text.specs.inner.Poured.{poured}
 use Rattle.text.proofs.TextLaws.{length-poured}
 use Rattle.text.proofs.put_byte.Statement.{statement}
 use Rattle.text.proofs.put_byte.Tie as tie

@@ -5,7 +5,7 @@ use native.Mathlib.Omega.{arith}
 use mathlib.Core.Path.{_≡_, refl, ap, _∙_}
 use lib.ListN.{length, take}
 use lib.Seq.{take-all}
-use Rattle.text.specs.Text.{poured}
+use Rattle.text.specs.inner.Poured.{poured}
 use Rattle.text.proofs.TextLaws.{length-poured, put-turn}
 use Rattle.text.proofs.put_bytes.Statement.{statement}
 use Rattle.text.proofs.put_bytes.Tie as tie

@@ -4,7 +4,8 @@ use Prim.Native.Nat.{_+_, _-_, _*_, _/_, _^_, _≤_}
 use native.Mathlib.Omega.{arith}
 use mathlib.Core.Path.{_≡_, refl, _∙_}
 use lib.ListN.{length, length-set}
-use Rattle.bits.specs.Bits.{bits, unpacked, over}
+use Rattle.bits.specs.Bits.{bits, unpacked}
+use Rattle.bits.specs.inner.Written.{over}
 use Rattle.bits.proofs.Numbers.{Below, below-set}
 use Rattle.bits.proofs.SixtyFour.{store-turn}
 use Rattle.bits.proofs.Turns.{put-none, put-all}

@@ -2,7 +2,7 @@
 use mathlib.Core.Path.{refl, ap, _∙_}
 use lib.ListN.{length}
 use borrow.Author.Needs.{needs}
-use Rattle.tables.specs.Cell.{emptied, taken}
+use Rattle.tables.specs.inner.Written.{emptied, taken}
 use Rattle.tables.proofs.RowsLaws.{part-row, changed-row, channel-length}
 use Rattle.election.proofs.SendLaws.{raised-cells, dropped-cells, received-cells, takes-one}
 use Rattle.election.proofs.sending.clear_channel.Statement.{statement}

@@ -2,7 +2,7 @@
 use mathlib.Core.Path.{refl, ap, _∙_}
 use lib.ListN.{length}
 use borrow.Author.Needs.{needs}
-use Rattle.tables.specs.Cell.{appended}
+use Rattle.tables.specs.inner.Written.{appended}
 use Rattle.tables.proofs.RowsLaws.{part-row, changed-row, channel-length}
 use Rattle.election.proofs.sending.send.Statement.{statement}
 use Rattle.election.proofs.sending.send.Tie as tie

@@ -5,7 +5,7 @@ use mathlib.Core.List.{[], _∷_}
 use mir.Syntax.{w32}
 use mir.Val.{SFits}
 use mir.Facts.{toZ-ofZ}
-use Rattle.height.specs.Order.{orderOf}
+use Rattle.height.specs.inner.Comparison.{orderOf}
 use Rattle.height.proofs.Compare.{order-heights, order-read}
 use Rattle.height.proofs.Signed.{sfits-wide}
 use Rattle.height.proofs.order.of_heights.Statement.{statement}

@@ -6,7 +6,8 @@ use lib.ListN.{length-set}
 use mir.Syntax.{w32}
 use mir.Val.{SFits}
 use mir.Facts.{toZ-ofZ}
-use Rattle.height.specs.Words.{storedAt, heightWords}
+use Rattle.height.specs.Words.{heightWords}
+use Rattle.height.specs.inner.Stored.{storedAt}
 use Rattle.height.proofs.words.store_height.Statement.{statement}
 use Rattle.height.proofs.words.store_height.Tie as tie
 

@@ -5,7 +5,8 @@ use mathlib.Core.Path.{_≡_, sym, ap, _∙_}
 use mathlib.Core.List.{List}
 use lib.ListN.{length, take, getD, length-take}
 use borrow.Author.Needs.{needs}
-use Rattle.bits.specs.Bits.{written, spread, bits}
+use Rattle.bits.specs.Bits.{spread, bits}
+use Rattle.bits.specs.inner.Written.{written}
 use Rattle.bits.proofs.Bytes.{length-written}
 use Rattle.image.proofs.RecordLaws.{length-widths}
 use Rattle.image.proofs.StampLaws.{height-room, stamp-room, height-put, message-put}

@@ -4,7 +4,7 @@ use Prim.Native.Nat.{_+_, _-_, _*_}
 use native.Mathlib.Omega.{arith}
 use mathlib.Core.Logic.{⊎-elim}
 use mathlib.Core.Path.{_≡_, ap, sym, _∙_}
-use Rattle.bits.specs.Bits.{written}
+use Rattle.bits.specs.inner.Written.{written}
 use Rattle.image.specs.Widths.{messageWidth}
 use Rattle.image.specs.inner.Parts.{Inside, cellBits}
 use Rattle.protocol.specs.Network.{Node}

@@ -5,7 +5,7 @@ use native.Mathlib.Omega.{arith}
 use mathlib.Core.List.{List}
 use mathlib.Core.Path.{_≡_, ap, _∙_}
 use lib.ListN.{length}
-use Rattle.bits.specs.Bits.{written}
+use Rattle.bits.specs.inner.Written.{written}
 use Rattle.image.specs.Widths.{heightWidth, nodeWidth}
 use Rattle.image.specs.inner.Parts.{Inside, rowBits}
 use Rattle.image.proofs.Bounds.{heights-small}

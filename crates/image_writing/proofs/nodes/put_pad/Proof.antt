@@ -1,7 +1,7 @@
 -- `image_writing::nodes::put_pad` meets its contract: a field of zero is a run of zero bits.
 use mathlib.Core.Path.{ap, _∙_}
 use borrow.Author.Needs.{needs}
-use Rattle.bits.specs.Bits.{written}
+use Rattle.bits.specs.inner.Written.{written}
 use Rattle.image.proofs.ImageBits.{bits-zero}
 use Rattle.image_writing.proofs.nodes.put_pad.Statement.{statement}
 use Rattle.image_writing.proofs.nodes.put_pad.Tie as tie

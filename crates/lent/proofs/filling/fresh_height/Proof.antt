@@ -1,7 +1,7 @@
 -- `lent::filling::fresh_height` meets its contract: node k elects itself at the clock 0.
 use native.Mathlib.Omega.{arith}
 use borrow.Author.Needs.{needs}
-use Rattle.height.specs.Words.{Negated}
+use Rattle.height.specs.inner.Stored.{Negated}
 use Rattle.lent.proofs.filling.fresh_height.Statement.{statement}
 use Rattle.lent.proofs.filling.fresh_height.Tie as tie
 

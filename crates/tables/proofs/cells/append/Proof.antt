@@ -1,7 +1,7 @@
 -- `tables::cells::append` meets its contract: the stores are those of `appended`, in its order.
 use native.Mathlib.Omega.{arith}
 use lib.ListN.{length-set}
-use Rattle.tables.specs.Cell.{appended}
+use Rattle.tables.specs.inner.Written.{appended}
 use borrow.Author.Needs.{needs}
 use Rattle.tables.proofs.cells.append.Statement.{statement}
 use Rattle.tables.proofs.cells.append.Tie as tie

@@ -6,7 +6,7 @@ use mathlib.Core.List.{List, [], _∷_, _++_}
 use native.Mathlib.Omega.{arith}
 use lib.ListN.{length, getD, set, take, drop, replicate, length-take, length-drop, length-set, drop-of-length-le}
 use lib.Seq.{paste, paste-zero, paste-suc, length-paste, take-paste, drop-paste, getD-drop, take-all}
-use Rattle.tables.specs.Cell.{taken}
+use Rattle.tables.specs.inner.Written.{taken}
 use Rattle.tables.proofs.cells.take_first.Statement.{statement}
 use Rattle.tables.proofs.cells.take_first.Tie as tie
 

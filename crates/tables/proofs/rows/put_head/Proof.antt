@@ -3,7 +3,7 @@ use native.Mathlib.Omega.{arith}
 use mathlib.Core.Path.{refl}
 use borrow.Author.Needs.{needs}
 use lib.ListN.{length-set}
-use Rattle.tables.specs.Row.{withHead}
+use Rattle.tables.specs.inner.Written.{withHead}
 use Rattle.tables.proofs.rows.put_head.Statement.{statement}
 use Rattle.tables.proofs.rows.put_head.Tie as tie
 

@@ -1,0 +1,2 @@
+-- Definitions for the proofs alone: no public promise cites them. What the functions that put bits leave, and what they ask.
+pub mod Written
