@@ -74,8 +74,7 @@ pub extern "C" fn election_nodes_len(n: u32) -> usize
     ensures { λ r. ⌜ r ≡ nodesLength n ⌝ }
 {
     if is_size(n) {
-        let k = n as usize;
-        return k * (tables::ROW_HEAD + tables::HEIGHT_SIZE * k);
+        return (n as usize) * tables::rows::row_width(n);
     }
     0
 }

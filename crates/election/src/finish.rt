@@ -34,7 +34,7 @@ fn write_node(n: u32, u: u32, v: u32, d: Decision, own: Height, nodes: &mut [u32
     ensures { λ _. ⌜ now (nodes .exit) ≡ putNode n u (rowAfter (nodeOf n u (now (nodes .entry))) u v d own) (now (nodes .entry)) ⌝ }
 {
     let a = tables::rows::node_start(n, u);
-    let e = a + (tables::ROW_HEAD + tables::HEIGHT_SIZE * (n as usize));
+    let e = a + tables::rows::row_width(n);
     write_row(n, u, v, d, own, &mut nodes[a..e]);
 }
 

@@ -22,12 +22,11 @@ pub fn fill(n: u32, nodes: &mut [u32], channels: &mut [u32])
 {
     tables::cells::fill_zero(nodes);
     tables::cells::fill_zero(channels);
-    let w = tables::ROW_HEAD + tables::HEIGHT_SIZE * (n as usize);
     let mut u = 1;
     while u <= n {
         let h = fresh_height(u);
         let a = tables::rows::node_start(n, u);
-        let e = a + w;
+        let e = a + tables::rows::row_width(n);
         tables::rows::put_height(n, &mut nodes[a..e], u, h);
         u += 1;
     }

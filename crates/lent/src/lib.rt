@@ -23,7 +23,7 @@ pub fn is_sized(n: u32, nodes: &[u32], channels: &[u32]) -> bool
     if n <= 16 {
         let k = n as usize;
         return (1 <= n)
-            & (nodes.len() == k * (tables::ROW_HEAD + tables::HEIGHT_SIZE * k))
+            & (nodes.len() == k * tables::rows::row_width(n))
             & (channels.len() == k * k * tables::CELL_WIDTH);
     }
     false

@@ -137,6 +137,10 @@ module _ (w i : ℕ) {a e : ℕ} (xs : List ℕ) (starts : a ≡ i * w) (ends : 
   unfolding putRow
   changed-row f h = rw (h, part-row, wide, starts)
 
+-- where a row starts, by a width that is w
+pub start-of-width : (i k : ℕ) {r m w : ℕ} → m ≡ w → (r ≡ i * m) × (r + m ≤ k * m) × (r ≤ 65536) → (r ≡ i * w) × (r + w ≤ k * w) × (r ≤ 65536)
+start-of-width i k e h = rw (← e) h
+
 -- ---- nodes and channels
 
 pub pair-lt : (n u v : ℕ) → Node n u → Node n v → pairOf n u v < n * n

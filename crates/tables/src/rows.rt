@@ -13,6 +13,14 @@ use super::ROW_HEAD;
 use height::Height;
 use height::Time;
 
+// Words of a node's row of n heights.
+pub fn row_width(n: u32) -> usize
+    requires { ⌜ n ≤ 16 ⌝ }
+    ensures { λ r. ⌜ (r ≡ width n) × (r ≤ 115) ⌝ }
+{
+    ROW_HEAD + HEIGHT_SIZE * (n as usize)
+}
+
 // Where row i of `count` rows of w words starts.
 fn start(i: usize, w: usize, count: usize) -> usize
     requires { ⌜ (i < count) × (w ≤ 256) × (count ≤ 256) ⌝ }
@@ -26,8 +34,7 @@ pub fn node_start(n: u32, u: u32) -> usize
     requires { ⌜ (n ≤ 16) × Node n u ⌝ }
     ensures { λ r. ⌜ (r ≡ (u - 1) * width n) × (r + width n ≤ n * width n) × (r ≤ 65536) ⌝ }
 {
-    let count = n as usize;
-    start((u - 1) as usize, ROW_HEAD + HEIGHT_SIZE * count, count)
+    start((u - 1) as usize, row_width(n), n as usize)
 }
 
 // Where the cell of channel u to v starts.
@@ -47,7 +54,7 @@ pub fn node<'a>(n: u32, u: u32, nodes: &'a [u32]) -> &'a [u32]
     ensures { λ r. ⌜ (now r ≡ nodeOf n u (now (nodes .entry))) × (length (now r) ≡ width n) ⌝ }
 {
     let a = node_start(n, u);
-    let e = a + (ROW_HEAD + HEIGHT_SIZE * (n as usize));
+    let e = a + row_width(n);
     &nodes[a..e]
 }
 

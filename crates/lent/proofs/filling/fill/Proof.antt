@@ -10,22 +10,16 @@ use Rattle.lent.proofs.filling.fill.Statement.{statement}
 use Rattle.lent.proofs.filling.fill.Tie as tie
 
 abbrev Inv-loop : tie.InvT-loop
-Inv-loop n nodes₀ channels w u₀ nodes u = FilledTo n u nodes
+Inv-loop n nodes₀ channels u₀ nodes u = FilledTo n u nodes
 
 abbrev μ-loop : tie.MeasureT-loop
-μ-loop n nodes₀ channels w u₀ nodes u = n + 1 - u
+μ-loop n nodes₀ channels u₀ nodes u = n + 1 - u
 
 fill-zero-requires : tie.Need-fill-zero-requires Inv-loop μ-loop
 fill-zero-requires c κs = search needs
 
 fill-zero-requires-2 : tie.Need-fill-zero-requires-2 Inv-loop μ-loop
 fill-zero-requires-2 c κs = search needs
-
-mul-w : tie.Need-mul-w Inv-loop μ-loop
-mul-w c = omega (arith, c .before .before .before .before .before .before .before .before .before .before .pre .few)
-
-add-w : tie.Need-add-w Inv-loop μ-loop
-add-w c = omega (arith, c .before .before .before .before .before .before .before .before .before .before .pre .few)
 
 loop-holds : tie.Need-loop-holds Inv-loop μ-loop
 loop-holds c =
@@ -39,11 +33,14 @@ fresh-height-requires c κs = search needs
 node-start-requires : tie.Need-node-start-requires Inv-loop μ-loop
 node-start-requires c κs = (c .before .before .loop .inv .few, next-node _ _ _ (c .before .before .loop .inv) (c .before .loop-test .taken))
 
+row-width-requires : tie.Need-row-width-requires Inv-loop μ-loop
+row-width-requires c κs = c .before .before .before .loop .inv .few
+
 add-e : tie.Need-add-e Inv-loop μ-loop
-add-e c = omega (arith, c .node-start .ensures .2, c .before .before .before .loop .inv .few)
+add-e c = omega (arith, c .before .node-start .ensures .2, c .row-width .ensures .1)
 
 mul-put-height : tie.Need-mul-put-height Inv-loop μ-loop
-mul-put-height c = omega (arith, c .node-start .ensures .2)
+mul-put-height c = omega (arith, c .before .node-start .ensures .2)
 
 sub-put-height : tie.Need-sub-put-height Inv-loop μ-loop
 sub-put-height c = omega arith
@@ -52,27 +49,32 @@ part-put-height-start : tie.Need-part-put-height-start Inv-loop μ-loop
 part-put-height-start c = omega arith
 
 part-put-height-end : tie.Need-part-put-height-end Inv-loop μ-loop
-part-put-height-end c = omega (arith, c .node-start .ensures .1, c .before .before .before .loop .inv .size)
+part-put-height-end c =
+    omega (arith, c .before .node-start .ensures .1, c .row-width .ensures .0, c .before .before .before .before .loop .inv .size)
 
 put-height-requires : tie.Need-put-height-requires Inv-loop μ-loop
 put-height-requires c κs =
-    let inv = c .before .before .before .before .loop .inv in
-    let taken = c .before .before .before .loop-test .taken in
-    let height = c .before .before .fresh-height .ensures in
-    (inv .few, next-node _ _ _ inv taken, part-wide _ _ _ inv taken (c .before .node-start .ensures .0) refl, height .1)
+    let inv = c .before .before .before .before .before .loop .inv in
+    let taken = c .before .before .before .before .loop-test .taken in
+    let height = c .before .before .before .fresh-height .ensures in
+    let a = c .before .before .node-start in
+    let ends = ap (λ (k : ℕ). a .result + k) (c .before .row-width .ensures .0) in
+    (inv .few, next-node _ _ _ inv taken, part-wide _ _ _ inv taken (a .ensures .0) ends, height .1)
 
 add-u : tie.Need-add-u Inv-loop μ-loop
-add-u c = omega (arith, c .before .before .before .before .before .before .before .loop .inv .few)
+add-u c = omega (arith, c .before .before .before .before .before .before .before .before .loop .inv .few)
 
 loop-less : tie.Need-loop-less Inv-loop μ-loop
 loop-less c = omega arith
 
 loop-again : tie.Need-loop-again Inv-loop μ-loop
 loop-again c =
-    let inv = c .before .before .before .before .before .before .before .loop .inv in
-    let taken = c .before .before .before .before .before .before .loop-test .taken in
-    filled-one _ _ _ inv taken (c .before .before .before .before .node-start .ensures .0) refl
-    (c .before .before .before .before .before .fresh-height .ensures .0) (c .before .before .put-height .ensures) refl
+    let inv = c .before .before .before .before .before .before .before .before .loop .inv in
+    let taken = c .before .before .before .before .before .before .before .loop-test .taken in
+    let a = c .before .before .before .before .before .node-start in
+    let ends = ap (λ (k : ℕ). a .result + k) (c .before .before .before .before .row-width .ensures .0) in
+    filled-one _ _ _ inv taken (a .ensures .0) ends
+    (c .before .before .before .before .before .before .fresh-height .ensures .0) (c .before .before .put-height .ensures) refl
 
 same-length : tie.Need-same-length Inv-loop μ-loop
 same-length c =
@@ -96,11 +98,10 @@ fill-spec =
     μ-loop
     fill-zero-requires
     fill-zero-requires-2
-    mul-w
-    add-w
     loop-holds
     fresh-height-requires
     node-start-requires
+    row-width-requires
     add-e
     mul-put-height
     sub-put-height
