@@ -12,8 +12,7 @@ use Rattle.basics.proofs.Tests.{clash, not-true-is-false, Choice, yes!, no!, ch
 use Rattle.protocol.specs.Step.{Event}
 use Rattle.refusal.specs.Outcome.{Outcome}
 use Rattle.calls.specs.History.{entry}
-use Rattle.calls.specs.Run.{Call, event, save, restore, Calls, Saved, RunState, startOfRun, Earlier, savedAt, sameBytes, lastSave, historyAt}
-use Rattle.calls.specs.Run.{act}
+use Rattle.calls.specs.Run.{Call, event, save, restore, Calls, Saved, RunState, startOfRun, Earlier, savedAt, sameBytes, lastSave, historyAt, act}
 
 -- ---- the test of two lists of bytes is equality
 

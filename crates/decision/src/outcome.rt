@@ -89,7 +89,7 @@ fn propagated(n: u32, row: &[u32], u: u32, v: u32, d: Decision, level: Reference
 {
     let own = super::sinks::height_of(n, row, v, d.view, u);
     let least = super::levels::smallest_delta(n, d.neighbors, row, v, d.view, level);
-    if -32768 < least {
+    if height::LEAST_DELTA < least {
         let delta = one_less(least);
         let pair = own.pair;
         return After::New(height_with(level, delta, pair, u));
@@ -104,7 +104,7 @@ fn adopted(n: u32, row: &[u32], u: u32, v: u32, d: Decision, w: u32) -> After
         × NegatedAfter r ⌝ }
 {
     let other = super::sinks::height_of(n, row, v, d.view, w);
-    if other.delta < 32767 {
+    if other.delta < height::GREATEST_DELTA {
         let delta = one_more(other.delta);
         let level = other.level;
         let pair = other.pair;

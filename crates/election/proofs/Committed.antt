@@ -19,9 +19,8 @@ use Rattle.protocol.specs.Step.{carried, heightAfter, cleared, commit, post}
 use Rattle.tables.specs.Cell.{count}
 use Rattle.tables.specs.Load.{load, tablesOf, clockAt, neighborsAt, formingAt, heightsAt}
 use Rattle.tables.specs.Row.{clockIn, neighborsIn, formingIn, heightIn}
-use Rattle.tables.specs.inner.Written.{putHeight}
+use Rattle.tables.specs.inner.Written.{putHeight, putNode}
 use Rattle.tables.specs.Tables.{Tables, nodeOf}
-use Rattle.tables.specs.inner.Written.{putNode}
 use Rattle.tables.specs.inner.Fit.{RowFits, TablesFit}
 use Rattle.tables.proofs.ChangeLaws.{changed-nodes}
 use Rattle.tables.proofs.RowLaws.{put-fits, put-heights, headed-fits, headed-heights, headed-clock, headed-neighbors, headed-forming}

@@ -20,9 +20,8 @@ use Rattle.nodeset.proofs.Members.{none-in-zero, member-range}
 use Rattle.nodeset.proofs.Walk.{LowestNode, lowest-in, member-without, without-less}
 use Rattle.protocol.specs.Network.{Node}
 use Rattle.tables.specs.Cell.{count}
-use Rattle.tables.specs.inner.Written.{appended, taken, emptied}
+use Rattle.tables.specs.inner.Written.{appended, taken, emptied, putChannel}
 use Rattle.tables.specs.Tables.{cellWidth, channelOf}
-use Rattle.tables.specs.inner.Written.{putChannel}
 use Rattle.tables.proofs.RowsLaws.{channel-length, channel-put, channel-put-length, channel-other}
 use Rattle.election.specs.declared.Kind.the-variants.{Raised, Dropped, Received}
 use Rattle.election.specs.declared.Kind.{Kind}

@@ -8,6 +8,14 @@ ghost use Rattle.height.specs.Height.{selfElected};
 pub mod order;
 pub mod words;
 
+// The clock's end.
+const LAST_TIME: u32 = 4294967295;
+
+// The range of a depth.
+pub const LEAST_DELTA: i32 = -32768;
+
+pub const GREATEST_DELTA: i32 = 32767;
+
 // A search time, or a clock. It grows.
 pub struct Time(pub u32);
 
@@ -49,12 +57,12 @@ impl Time {
         let clock = self.0;
         let other = stamp.0;
         if clock < other {
-            if other < 4294967295 {
+            if other < LAST_TIME {
                 return Moved::To(Time(other + 1));
             }
             return Moved::AtEnd;
         }
-        if clock < 4294967295 {
+        if clock < LAST_TIME {
             return Moved::To(Time(clock + 1));
         }
         Moved::AtEnd

@@ -27,7 +27,7 @@ fn level_holds(n: u32, l: ReferenceLevel) -> bool
 fn delta_holds(d: i32) -> bool
     ensures { λ r. ⌜ r ≡ deltaHolds d ⌝ }
 {
-    (-32768 <= d) & (d <= 32767)
+    (height::LEAST_DELTA <= d) & (d <= height::GREATEST_DELTA)
 }
 
 // A height of node k.

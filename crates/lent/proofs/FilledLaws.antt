@@ -22,15 +22,12 @@ use Rattle.protocol.proofs.Restrict.{nodes-is, pairs-is, same-nodes, same-pairs
 use Rattle.refusal.specs.Outcome.{outcome}
 use Rattle.refusal.specs.Refusal.{why}
 use Rattle.tables.specs.Cell.{queue}
-use Rattle.tables.specs.inner.Written.{emptied}
+use Rattle.tables.specs.inner.Written.{emptied, putHeight, putNode}
 use Rattle.tables.specs.Load.{load, tablesOf, clockAt, neighborsAt, formingAt, heightsAt, messagesOn}
 use Rattle.tables.specs.Row.{clockIn, neighborsIn, formingIn, heightIn}
-use Rattle.tables.specs.inner.Written.{putHeight}
 use Rattle.tables.specs.Rows.{rowAt}
 use Rattle.tables.specs.Tables.{Tables, tables, sized, width, cellWidth, nodeOf, pairOf, channelOf}
-use Rattle.tables.specs.inner.Fit.{Sized}
-use Rattle.tables.specs.inner.Written.{putNode}
-use Rattle.tables.specs.inner.Fit.{RowFits, TablesFit}
+use Rattle.tables.specs.inner.Fit.{Sized, RowFits, TablesFit}
 use Rattle.tables.proofs.CellLaws.{emptied-fits, queue-emptied}
 use Rattle.tables.proofs.RowLaws.{put-word, put-heights, put-fits}
 use Rattle.tables.proofs.RowsLaws.{row-fits, pair-lt, node-length, node-put, node-other, node-put-length, part-row, changed-row}

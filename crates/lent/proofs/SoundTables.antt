@@ -18,8 +18,7 @@ use Rattle.tables.specs.Cell.{count, allZero}
 use Rattle.tables.specs.Row.{neighborsIn, formingIn}
 use Rattle.tables.specs.Rows.{rowAt}
 use Rattle.tables.specs.Tables.{Tables, width, cellWidth, nodeOf, pairOf, channelOf}
-use Rattle.tables.specs.inner.Fit.{Sized}
-use Rattle.tables.specs.inner.Fit.{CellFits, RowFits, TablesFit}
+use Rattle.tables.specs.inner.Fit.{Sized, CellFits, RowFits, TablesFit}
 use Rattle.tables.proofs.RowsLaws.{node-length, channel-length}
 use Rattle.tables.proofs.WordRuns.{zero-at}
 use Rattle.lent.specs.Check.{pairAt, checkOn}

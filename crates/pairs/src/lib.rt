@@ -38,7 +38,7 @@ pub fn view_sound(n: u32, v: u32, row: &[u32]) -> bool
     if is_member(row[1], v) {
         return holds::height_holds(n, v, tables::rows::height_in(n, row, v));
     }
-    let a = tables::ROW_HEAD + ((v - 1) as usize) * tables::HEIGHT_SIZE;
+    let a = tables::rows::height_start(v);
     let e = a + tables::HEIGHT_SIZE;
     tables::cells::all_zero(&row[a..e])
 }

@@ -13,11 +13,9 @@ use Rattle.height.specs.inner.Stored.{storedAt}
 use Rattle.height.specs.declared.Height.{Height}
 use Rattle.protocol.specs.Network.{Node}
 use Rattle.tables.specs.Row.{heightIn}
-use Rattle.tables.specs.inner.Written.{putHeight}
+use Rattle.tables.specs.inner.Written.{putHeight, putPart, putRow, putNode, putChannel}
 use Rattle.tables.specs.Rows.{part, rowAt}
-use Rattle.tables.specs.inner.Written.{putPart, putRow}
 use Rattle.tables.specs.Tables.{width, cellWidth, nodeOf, pairOf, channelOf}
-use Rattle.tables.specs.inner.Written.{putNode, putChannel}
 
 -- ---- parts
 

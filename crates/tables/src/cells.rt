@@ -17,6 +17,14 @@ use height::Time;
 // Where the last slot starts.
 const LAST_SLOT: usize = CELL_WIDTH - MESSAGE_SIZE;
 
+// Where message k, counted from 0, starts.
+fn slot_start(k: usize) -> usize
+    requires { ⌜ k ≤ capacity ⌝ }
+    ensures { λ r. ⌜ r ≡ slot k ⌝ }
+{
+    1 + k * MESSAGE_SIZE
+}
+
 // How many messages wait.
 pub fn waiting(cell: &[u32]) -> u32
     requires { ⌜ length (now cell) ≡ cellWidth ⌝ }
@@ -30,14 +38,15 @@ pub fn nth_height(cell: &[u32], k: usize) -> Height
     requires { ⌜ (length (now cell) ≡ cellWidth) × (k < capacity) ⌝ }
     ensures { λ r. ⌜ (r ≡ messageAt (now (cell .entry)) (slot k) .height) × Negated (r .pair .nlts .0) ⌝ }
 {
-    height::words::load_height(cell, 1 + k * MESSAGE_SIZE)
+    height::words::load_height(cell, slot_start(k))
 }
 
 pub fn nth_timestamp(cell: &[u32], k: usize) -> Time
     requires { ⌜ (length (now cell) ≡ cellWidth) × (k < capacity) ⌝ }
     ensures { λ r. ⌜ r .0 ≡ messageAt (now (cell .entry)) (slot k) .timestamp ⌝ }
 {
-    Time(cell[1 + k * MESSAGE_SIZE + HEIGHT_SIZE])
+    let at = slot_start(k) + HEIGHT_SIZE;
+    Time(cell[at])
 }
 
 // Whether every word after the first `count` messages is zero.
@@ -45,7 +54,7 @@ pub fn is_unused_after(cell: &[u32], count: usize) -> bool
     requires { ⌜ (length (now cell) ≡ cellWidth) × (count ≤ capacity) ⌝ }
     ensures { λ r. ⌜ r ≡ allZero (drop (slot count) (now (cell .entry))) ⌝ }
 {
-    let a = 1 + count * MESSAGE_SIZE;
+    let a = slot_start(count);
     all_zero(&cell[a..])
 }
 
@@ -55,7 +64,7 @@ pub fn append(cell: &mut [u32], h: Height, t: Time)
     ensures { λ _. ⌜ now (cell .exit) ≡ appended (now (cell .entry)) h (t .0) ⌝ }
 {
     let waiting = cell[0];
-    let slot = 1 + waiting as usize * MESSAGE_SIZE;
+    let slot = slot_start(waiting as usize);
     height::words::store_height(cell, slot, h);
     cell[slot + HEIGHT_SIZE] = t.0;
     cell[0] = waiting + 1;

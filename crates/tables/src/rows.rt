@@ -6,7 +6,7 @@ ghost use Rattle.height.specs.inner.Stored.{Negated};
 ghost use Rattle.protocol.specs.Network.{Node};
 ghost use Rattle.tables.specs.Row.{clockIn, neighborsIn, formingIn, heightIn};
 ghost use Rattle.tables.specs.inner.Written.{putHeight, withHead};
-ghost use Rattle.tables.specs.Tables.{rowHead, width, cellWidth, nodeOf, pairOf, channelOf};
+ghost use Rattle.tables.specs.Tables.{rowHead, heightSize, width, cellWidth, nodeOf, pairOf, channelOf};
 use super::CELL_WIDTH;
 use super::HEIGHT_SIZE;
 use super::ROW_HEAD;
@@ -91,13 +91,20 @@ pub fn forming(row: &[u32]) -> u16
     row[2] as u16
 }
 
+// Where the height of node v starts in a row.
+pub fn height_start(v: u32) -> usize
+    requires { ⌜ (1 ≤ v) × (v ≤ 16) ⌝ }
+    ensures { λ r. ⌜ (r ≡ rowHead + (v - 1) * heightSize) × (r ≤ 108) ⌝ }
+{
+    ROW_HEAD + ((v - 1) as usize) * HEIGHT_SIZE
+}
+
 // The height of node v in a row.
 pub fn height_in(n: u32, row: &[u32], v: u32) -> Height
     requires { ⌜ (n ≤ 16) × Node n v × (length (now row) ≡ width n) ⌝ }
     ensures { λ r. ⌜ (r ≡ heightIn (now (row .entry)) v) × Negated (r .pair .nlts .0) ⌝ }
 {
-    let k = (v - 1) as usize;
-    height::words::load_height(row, ROW_HEAD + k * HEIGHT_SIZE)
+    height::words::load_height(row, height_start(v))
 }
 
 // ---- what is written to a row
@@ -107,8 +114,7 @@ pub fn put_height(n: u32, row: &mut [u32], v: u32, h: Height)
     requires { ⌜ (n ≤ 16) × Node n v × (length (now row) ≡ width n) × Negated (h .pair .nlts .0) ⌝ }
     ensures { λ _. ⌜ now (row .exit) ≡ putHeight (now (row .entry)) v h ⌝ }
 {
-    let k = (v - 1) as usize;
-    height::words::store_height(row, ROW_HEAD + k * HEIGHT_SIZE, h);
+    height::words::store_height(row, height_start(v), h);
 }
 
 // The clock and both sets.

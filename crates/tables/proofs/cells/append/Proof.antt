@@ -11,11 +11,10 @@ slice-write-cell-2 c = simp length-set (omega arith)
 
 returns : tie.Need-returns
 unfolding appended
-returns c = rw (c .before .before .store-height .ensures)
+returns c = rw (c .before .before .store-height .ensures, c .before .before .before .before .slot-start .ensures)
 
 pub append-spec : {M : Type 1} → statement M
 append-spec =
     tie.close
-    (tie.spec (λ c. search needs) (λ c. search needs) (λ c. search needs) (λ c. search needs) (λ c κs. search needs)
-    (λ c. search needs) (λ c. search needs) (λ c. search needs) (λ c. search needs) slice-write-cell-2
-    (λ c. search needs) returns)
+    (tie.spec (λ c. search needs) (λ c. search needs) (λ c κs. search needs) (λ c κs. search needs) (λ c. search needs)
+    (λ c. search needs) (λ c. search needs) (λ c. search needs) slice-write-cell-2 (λ c. search needs) returns)
