@@ -42,16 +42,14 @@ height-room xs at d n a b r =
 
 -- a message's stamp stands behind its height
 pub stamp-room : (xs : List ℕ) (at d n : ℕ) → n ≡ 8 → RoomFor xs at (take n (widthsOf d))
-    → (at + (80 + d) < 2 ^ 32) × (at + (80 + d) + 32 ≤ 8 * length xs)
-unfolding heightWidth
+    → (at + heightWidth d < 2 ^ 32) × (at + heightWidth d + 32 ≤ 8 * length xs)
 stamp-room xs at d n e r =
-    let t : total (take n (widthsOf d)) ≡ 80 + d + 32 = rw e (total-message d ∙ message-wider d) in
+    let t : total (take n (widthsOf d)) ≡ heightWidth d + 32 = rw e (total-message d ∙ message-wider d) in
     (omega (arith, r .small), omega (arith, r .inside))
 
 -- ---- putting
 
-length-seven : (d : ℕ) (ws : List ℕ) → 7 ≤ length ws → length (spread (take 7 (widthsOf d)) (take 7 ws)) ≡ 80 + d
-unfolding heightWidth
+length-seven : (d : ℕ) (ws : List ℕ) → 7 ≤ length ws → length (spread (take 7 (widthsOf d)) (take 7 ws)) ≡ heightWidth d
 length-seven d ws h =
     let e : length (take 7 (widthsOf d)) ≡ length (take 7 ws) = length-widths d 7 (omega arith) ∙ sym (simp length-take (omega arith)) in
     length-spread (take 7 (widthsOf d)) (take 7 ws) e ∙ total-height d
@@ -61,15 +59,15 @@ pub height-put : (xs : List ℕ) (at d : ℕ) (ws : List ℕ) → length ws ≡ 
 unfolding recordBits
 height-put xs at d ws e = rw e (ap (λ (l : List ℕ). written xs at (spread (take 7 (widthsOf d)) l)) (take-all 7 ws (omega arith)))
 
-pub message-put : (xs : List ℕ) (at d : ℕ) (ws : List ℕ) → length ws ≡ 8 → at + (80 + d) + 32 ≤ 8 * length xs
-    → written (written xs at (spread (take 7 (widthsOf d)) (take 7 ws))) (at + (80 + d)) (bits 32 (getD ws 7 0)) ≡ written xs at (recordBits d ws)
+pub message-put : (xs : List ℕ) (at d : ℕ) (ws : List ℕ) → length ws ≡ 8 → at + heightWidth d + 32 ≤ 8 * length xs
+    → written (written xs at (spread (take 7 (widthsOf d)) (take 7 ws))) (at + heightWidth d) (bits 32 (getD ws 7 0)) ≡ written xs at (recordBits d ws)
 unfolding recordBits
 message-put xs at d ws e h =
     let l : length (widthsOf d) ≡ length ws = sym e in
-    let n : length (spread (take 7 (widthsOf d)) (take 7 ws)) ≡ 80 + d = length-seven d ws (omega arith) in
+    let n : length (spread (take 7 (widthsOf d)) (take 7 ws)) ≡ heightWidth d = length-seven d ws (omega arith) in
     let all : spread (take 8 (widthsOf d)) (take 8 ws) ≡ spread (take (length ws) (widthsOf d)) ws =
     ap₂ (λ (k : ℕ) (t : List ℕ). spread (take k (widthsOf d)) t) (sym e) (take-all 8 ws (omega arith)) in
-    written-written xs at (spread (take 7 (widthsOf d)) (take 7 ws)) (bits 32 (getD ws 7 0)) (at + (80 + d)) (below-spread (take 7 (widthsOf d)) (take 7 ws))
+    written-written xs at (spread (take 7 (widthsOf d)) (take 7 ws)) (bits 32 (getD ws 7 0)) (at + heightWidth d) (below-spread (take 7 (widthsOf d)) (take 7 ws))
     (omega arith) (omega (arith, length-bits 32 (getD ws 7 0)))
     ∙ ap (written xs at) (sym (spread-more (widthsOf d) ws 7 (omega arith) l) ∙ all)
 
@@ -96,10 +94,10 @@ height-got d bs ws e =
     let none : drop 7 ws ≡ [] = drop-of-length-le ws (le-of-eq e) in
     rw e (ap (λ (l : List ℕ). set l 3 (extendedOf d (getD g 3 0))) (ap (λ (t : List ℕ). g ++ t) none ∙ append-nil g))
 
-pub message-got : (d : ℕ) (bs ws : List ℕ) (y : ℕ) → length ws ≡ 8 → y ≡ number (take 32 (drop (80 + d) bs))
+pub message-got : (d : ℕ) (bs ws : List ℕ) (y : ℕ) → length ws ≡ 8 → y ≡ number (take 32 (drop (heightWidth d) bs))
     → set (set (gathered (take 7 (widthsOf d)) bs ++ drop 7 ws) 3 (extendedOf d (getD (gathered (take 7 (widthsOf d)) bs) 3 0))) 7 y
     ≡ recordOf d (length ws) bs
-unfolding recordOf heightWidth
+unfolding recordOf
 message-got d bs ws y e ey =
     let g : List ℕ = gathered (take 7 (widthsOf d)) bs in
     let x : ℕ = extendedOf d (getD g 3 0) in
@@ -116,6 +114,6 @@ message-got d bs ws y e ey =
     ∙ ap (λ (k : ℕ). set (g ++ (y ∷ [])) 3 (extendedOf d k)) (sym (get-front g (y ∷ []) 3 (omega arith)))
     ∙ sym (ap (λ (l : List ℕ). set l 3 (extendedOf d (getD l 3 0))) (ap (λ (k : ℕ). gathered (take k (widthsOf d)) bs) e ∙ all))
 
-pub stamp-field : (xs : List ℕ) (at d : ℕ) → field xs (at + (80 + d)) 32 ≡ number (take 32 (drop (80 + d) (drop at (unpacked xs))))
+pub stamp-field : (xs : List ℕ) (at d : ℕ) → field xs (at + heightWidth d) 32 ≡ number (take 32 (drop (heightWidth d) (drop at (unpacked xs))))
 unfolding field
-stamp-field xs at d = ap (λ (l : List ℕ). number (take 32 l)) (sym (drop-drop (80 + d) at (unpacked xs)))
+stamp-field xs at d = ap (λ (l : List ℕ). number (take 32 l)) (sym (drop-drop (heightWidth d) at (unpacked xs)))

@@ -11,7 +11,7 @@ ghost use Rattle.tables.specs.Tables.{messageSize, cellWidth};
 ghost use Rattle.image.specs.Places.{fieldIn, messagesOf};
 ghost use Rattle.image.specs.Widths.{messageWidth};
 ghost use Rattle.image.specs.inner.Parts.{Inside, Depth, cellBits, cellFrom};
-use super::MESSAGE_REST;
+use super::widths;
 use tables::MESSAGE_SIZE;
 
 // A cell's count and messages go to a bit place; the place behind them.
@@ -21,7 +21,7 @@ pub fn put_cell(buf: &mut [u8], at: usize, depth: u8, cell: &[u32]) -> usize
         × (r ≡ at + 4 + count (now (cell .entry)) * messageWidth depth) ⌝ }
 {
     let c = cell[0] as usize;
-    let w = MESSAGE_REST + depth as usize;
+    let w = widths::message(depth);
     bits::put(buf, at, 4, cell[0]);
     super::records::put_records(buf, at + 4, depth, MESSAGE_SIZE, w, c, &cell[1..]);
     at + 4 + c * w
@@ -38,7 +38,7 @@ fn get_messages(bytes: &[u8], at: usize, depth: u8, c: usize, words: &mut [u32])
         at,
         depth,
         MESSAGE_SIZE,
-        MESSAGE_REST + depth as usize,
+        widths::message(depth),
         c,
         words,
     );
@@ -55,5 +55,5 @@ pub fn get_cell(bytes: &[u8], at: usize, depth: u8, cell: &mut [u32]) -> usize
     let c = count as usize;
     cell[0] = count;
     get_messages(bytes, at + 4, depth, c, &mut cell[1..]);
-    at + 4 + c * (MESSAGE_REST + depth as usize)
+    at + 4 + c * widths::message(depth)
 }

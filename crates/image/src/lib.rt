@@ -3,6 +3,7 @@
 pub mod cells;
 pub mod records;
 pub mod rows;
+pub mod widths;
 
 // Version 1: bits of the header, behind which the nodes stand, and of a depth.
 pub const HEADER_LENGTH: u32 = 32;
@@ -11,14 +12,5 @@ pub const HEADER_END: usize = HEADER_LENGTH as usize;
 
 pub const DEPTH_WIDTH: u8 = 16;
 
-// Bits of a node's clock and sets, before its heights; of a height and of a message, both without the depth.
+// Bits of a node's clock and sets, before its heights.
 pub const NODE_HEAD: usize = 64;
-
-pub const HEIGHT_REST: usize = 80;
-
-pub const MESSAGE_REST: usize = HEIGHT_REST + 32;
-
-// Bits of a height and of a message in version 1.
-pub const HEIGHT_WIDTH: usize = HEIGHT_REST + DEPTH_WIDTH as usize;
-
-pub const MESSAGE_WIDTH: usize = MESSAGE_REST + DEPTH_WIDTH as usize;

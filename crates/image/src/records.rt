@@ -9,7 +9,6 @@ ghost use Rattle.tables.specs.Tables.{heightSize, messageSize};
 ghost use Rattle.image.specs.Places.{recordsFrom};
 ghost use Rattle.image.specs.Widths.{widthsOf, extendedOf, recordBits, recordOf};
 ghost use Rattle.image.specs.inner.Parts.{RecordRun, recordsBits};
-use super::HEIGHT_REST;
 use tables::HEIGHT_SIZE;
 use tables::MESSAGE_SIZE;
 
@@ -47,7 +46,7 @@ pub fn put_record(buf: &mut [u8], at: usize, depth: u8, words: &[u32])
     if words.len() == MESSAGE_SIZE {
         bits::put(
             buf,
-            at + (HEIGHT_REST + depth as usize),
+            at + super::widths::height(depth),
             32,
             words[HEIGHT_SIZE],
         );
@@ -63,7 +62,7 @@ pub fn get_record(bytes: &[u8], at: usize, depth: u8, words: &mut [u32])
     bits::get_fields(bytes, at, &w[..HEIGHT_SIZE], &mut words[..HEIGHT_SIZE]);
     words[3] = extended(words[3], depth as u32);
     if words.len() == MESSAGE_SIZE {
-        words[HEIGHT_SIZE] = bits::get(bytes, at + (HEIGHT_REST + depth as usize), 32);
+        words[HEIGHT_SIZE] = bits::get(bytes, at + super::widths::height(depth), 32);
     }
 }
 

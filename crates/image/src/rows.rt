@@ -8,8 +8,8 @@ ghost use Rattle.tables.specs.Tables.{heightSize, width};
 ghost use Rattle.image.specs.Places.{heightsFrom};
 ghost use Rattle.image.specs.Widths.{nodeWidth};
 ghost use Rattle.image.specs.inner.Parts.{Inside, Depth, rowBits, rowFrom};
-use super::HEIGHT_REST;
 use super::NODE_HEAD;
+use super::widths;
 use tables::HEIGHT_SIZE;
 use tables::ROW_HEAD;
 
@@ -26,7 +26,7 @@ pub fn put_row(buf: &mut [u8], at: usize, depth: u8, n: usize, row: &[u32])
         at + NODE_HEAD,
         depth,
         HEIGHT_SIZE,
-        HEIGHT_REST + depth as usize,
+        widths::height(depth),
         n,
         &row[ROW_HEAD..],
     );
@@ -42,7 +42,7 @@ pub fn get_heights(bytes: &[u8], at: usize, depth: u8, n: usize, words: &mut [u3
         at + NODE_HEAD,
         depth,
         HEIGHT_SIZE,
-        HEIGHT_REST + depth as usize,
+        widths::height(depth),
         n,
         words,
     );

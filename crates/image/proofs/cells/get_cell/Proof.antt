@@ -1,11 +1,10 @@
 -- `image::cells::get_cell` meets its contract: the count is set before the messages.
 use Prim.Native.Nat.{ℕ, _+_, _*_}
 use native.Mathlib.Omega.{arith}
-use mathlib.Core.Path.{_≡_, sym, ap, _∙_}
+use mathlib.Core.Path.{_≡_, sym, ap, ap₂, _∙_}
 use lib.ListN.{length, length-set}
 use Rattle.bits.specs.Bits.{unpacked, field}
 use Rattle.image.specs.Places.{fieldIn}
-use Rattle.image.specs.Widths.{messageWidth}
 use Rattle.image.proofs.PartCalls.{cell-got, behind-count}
 use Rattle.image.proofs.PartLaws.{length-cell-from}
 use borrow.Author.Needs.{needs}
@@ -41,38 +40,38 @@ get-messages-requires c κs =
 add-result : tie.Need-add-result
 add-result c = search needs
 
-add-result-2 : tie.Need-add-result-2
-add-result-2 c = search needs
+message-requires : tie.Need-message-requires
+message-requires c κs = search needs
 
 mul-result : tie.Need-mul-result
-unfolding messageWidth field fieldIn
+unfolding field fieldIn
 mul-result c =
-    let s = c .before .before .before .before .before .before .before in
-    let got = c .before .before .before .before .get in
+    let s = c .before .before .before .before .before .before .before .before in
+    let got = c .before .before .before .before .before .get in
     let e : got .result ≡ fieldIn (unpacked (s .args .bytes .now)) (s .args .at) 4 = got .ensures in
-    rw e (omega arith)
+    rw (e, c .message .ensures) (omega arith)
 
-add-result-3 : tie.Need-add-result-3
-unfolding messageWidth field fieldIn
-add-result-3 c =
-    let s = c .before .before .before .before .before .before .before in
-    let got = c .before .before .before .before .get in
+add-result-2 : tie.Need-add-result-2
+unfolding field fieldIn
+add-result-2 c =
+    let s = c .before .before .before .before .before .before .before .before in
+    let got = c .before .before .before .before .before .get in
     let e : got .result ≡ fieldIn (unpacked (s .args .bytes .now)) (s .args .at) 4 = got .ensures in
-    rw e (omega arith)
+    rw (e, c .message .ensures) (omega arith)
 
 returns : tie.Need-returns
-unfolding messageWidth field fieldIn
+unfolding field fieldIn
 returns c =
-    let s = c .before .before .before .before .before .before .before in
+    let s = c .before .before .before .before .before .before .before .before in
     let a = s .args in
-    let got = c .before .before .before .before .get in (
-      cell-got (a .depth) (a .bytes .now) (a .cell .now) _ (a .at) _ (s .pre .1) (got .ensures) (c .before .before .get-messages .ensures),
-      ap (λ (k : ℕ). a .at + 4 + k * messageWidth (a .depth)) (got .ensures),
+    let got = c .before .before .before .before .before .get in (
+      cell-got (a .depth) (a .bytes .now) (a .cell .now) _ (a .at) _ (s .pre .1) (got .ensures) (c .before .before .before .get-messages .ensures),
+      ap₂ (λ (k w : ℕ). a .at + 4 + k * w) (got .ensures) (c .message .ensures),
     )
 
 same-length : tie.Need-same-length
 same-length c =
-    let s = c .before .before .before .before .before .before .before in
+    let s = c .before .before .before .before .before .before .before .before in
     let a = s .args in
     ap length (returns c .0) ∙ length-cell-from (a .depth) (unpacked (a .bytes .now)) (a .at) ∙ sym (s .pre .1)
 
@@ -89,8 +88,8 @@ get-cell-spec =
     part-get-messages-end
     get-messages-requires
     add-result
-    add-result-2
+    message-requires
     mul-result
-    add-result-3
+    add-result-2
     same-length
     returns)

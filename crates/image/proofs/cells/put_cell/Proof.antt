@@ -3,7 +3,6 @@ use Prim.Native.Nat.{_-_}
 use native.Mathlib.Omega.{arith}
 use mathlib.Core.Path.{_≡_, refl, _∙_}
 use lib.ListN.{length, take, drop}
-use Rattle.image.specs.Widths.{messageWidth}
 use Rattle.image.proofs.PartCalls.{rest-length, cell-put}
 use Rattle.image.proofs.PartTurns.{messages}
 use borrow.Author.Needs.{needs}
@@ -16,8 +15,8 @@ shared-slice-read-c c = search needs
 cast-c : tie.Need-cast-c
 cast-c c = search needs
 
-add-w : tie.Need-add-w
-add-w c = search needs
+message-requires : tie.Need-message-requires
+message-requires c κs = search needs
 
 shared-slice-read-put : tie.Need-shared-slice-read-put
 shared-slice-read-put c = search needs
@@ -38,36 +37,33 @@ part-put-records-end : tie.Need-part-put-records-end
 part-put-records-end c = search needs
 
 put-records-requires : tie.Need-put-records-requires
-unfolding messageWidth
 put-records-requires c κs =
-    let s = c .before .before .before .before .before .before .before .before .before .before in
+    let s = c .before .before .before .before .before .before .before .before .before .before .before in
     let put = c .before .before .before .before .put in
     let cell = s .args .cell .now in
     let len : length (take (length cell - 1) (drop 1 cell)) ≡ 64 = rest-length 1 cell ∙ omega arith in
     let same : length (put .last .0) ≡ length (s .args .buf .now) = omega arith in
-    messages (s .pre .0, s .pre .2, len, record { small = omega (arith, s .pre .3 .small); inside = omega (arith, s .pre .3 .inside, same) })
+    rw (c .before .before .before .before .before .before .before .message .ensures)
+    (messages (s .pre .0, s .pre .2, len, record { small = omega (arith, s .pre .3 .small); inside = omega (arith, s .pre .3 .inside, same) }))
 
 add-result : tie.Need-add-result
 add-result c = search needs
 
 mul-result : tie.Need-mul-result
-unfolding messageWidth
-mul-result c = omega arith
+mul-result c = rw (c .before .before .before .before .before .before .before .before .before .before .message .ensures) (omega arith)
 
 add-result-2 : tie.Need-add-result-2
-unfolding messageWidth
-add-result-2 c = omega arith
+add-result-2 c = rw (c .before .before .before .before .before .before .before .before .before .before .message .ensures) (omega arith)
 
 same-length : tie.Need-same-length
 same-length c = search needs
 
 returns : tie.Need-returns
-unfolding messageWidth
 returns c =
-    let s = c .before .before .before .before .before .before .before .before .before .before .before .before .before in (
+    let s = c .before .before .before .before .before .before .before .before .before .before .before .before .before .before in (
       cell-put (s .args .depth) (s .args .cell .now) (s .args .buf .now) _ _ (s .args .at) (s .pre .1) (s .pre .2) (s .pre .3)
           (c .before .before .before .before .before .before .before .put .ensures) (c .before .before .put-records .ensures),
-      refl,
+      rw (c .before .before .before .before .before .before .before .before .before .before .message .ensures) refl,
     )
 
 pub put-cell-spec : {M : Type 1} → statement M
@@ -76,7 +72,7 @@ put-cell-spec =
     (tie.spec
     shared-slice-read-c
     cast-c
-    add-w
+    message-requires
     shared-slice-read-put
     put-requires
     add-put-records

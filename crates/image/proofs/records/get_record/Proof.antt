@@ -1,15 +1,15 @@
 -- `image::records::get_record` meets its contract: seven words are got at the widths of a height, the depth is extended, and a message's
 -- stamp is got behind them.
-use Prim.Native.Nat.{ℕ, _^_, _<_}
+use Prim.Native.Nat.{ℕ, _+_, _^_, _<_}
 use native.Mathlib.Omega.{arith}
 use mathlib.Core.Path.{_≡_, sym, ap, ap₂, _∙_}
 use mathlib.Core.List.{List, _++_}
 use lib.ListN.{length, take, drop, getD, set, length-take}
 use borrow.Author.Needs.{needs}
-use Rattle.bits.specs.Bits.{unpacked, gathered}
+use Rattle.bits.specs.Bits.{unpacked, field, gathered}
 use Rattle.bits.proofs.Bytes.{below-unpacked}
 use Rattle.bits.proofs.Numbers.{below-drop}
-use Rattle.image.specs.Widths.{widthsOf, extendedOf}
+use Rattle.image.specs.Widths.{widthsOf, extendedOf, heightWidth}
 use Rattle.image.proofs.RecordLaws.{length-widths, depth-width, gathered-lt}
 use Rattle.image.proofs.StampLaws.{height-room, stamp-room, seven-got, length-kept, depth-got, height-got, message-got, stamp-field}
 use Rattle.image.proofs.records.get_record.Statement.{statement}
@@ -65,26 +65,26 @@ extended-requires c κs =
 slice-write-words : tie.Need-slice-write-words
 slice-write-words c = search needs
 
-add-get : tie.Need-add-get
-add-get c = search needs
+height-requires : tie.Need-height-requires
+height-requires c κs = search needs
 
-add-get-2 : tie.Need-add-get-2
-add-get-2 c = search needs
+add-get : tie.Need-add-get
+unfolding heightWidth
+add-get c = omega arith
 
 get-requires : tie.Need-get-requires
 get-requires c κs =
-    let b5 = c .before .before .before .before .before in
-    let b8 = c .before .before .before .before .before .before .before .before in
-    let b11 = c .before .before .before .before .before .before .before .before .before .before .before in
-    let s = b11 in
+    let b6 = c .before .before .before .before .before .before in
+    let b9 = c .before .before .before .before .before .before .before .before .before in
+    let s = c .before .before .before .before .before .before .before .before .before .before .before .before in
     let a = s .args in
     let bs = drop (a .at) (unpacked (a .bytes .now)) in
-    let g : b5 .get-fields .last .1 .1 .1 .0 ≡ gathered (take 7 (widthsOf (a .depth))) bs =
-    b5 .get-fields .ensures ∙ ap (λ (l : List ℕ). gathered (take 7 l) bs) (b8 .widths .ensures) in
+    let g : b6 .get-fields .last .1 .1 .1 .0 ≡ gathered (take 7 (widthsOf (a .depth))) bs =
+    b6 .get-fields .ensures ∙ ap (λ (l : List ℕ). gathered (take 7 l) bs) (b9 .widths .ensures) in
     let seven = ap length g ∙ seven-got (a .depth) bs in
-    let n = length-kept (b5 .get-fields .last .1 .1 .1 .0) (a .words .now) (c .before .extended .result) seven (s .pre .1 .0 .0) in
-    let r = stamp-room (a .bytes .now) (a .at) (a .depth) (length (a .words .now)) (sym n ∙ c .if1 .taken) (s .pre .0) in
-    (omega arith, (r .0, r .1))
+    let n = length-kept (b6 .get-fields .last .1 .1 .1 .0) (a .words .now) (c .before .before .extended .result) seven (s .pre .1 .0 .0) in
+    let r = stamp-room (a .bytes .now) (a .at) (a .depth) (length (a .words .now)) (sym n ∙ c .before .if1 .taken) (s .pre .0) in
+    (omega arith, (omega (arith, r .0), omega (arith, r .1)))
 
 slice-write-words-2 : tie.Need-slice-write-words-2
 slice-write-words-2 c = search needs
@@ -94,21 +94,21 @@ same-length c = search needs
 
 returns : tie.Need-returns
 returns c =
-    let b2 = c .before .before in
-    let b6 = c .before .before .before .before .before .before in
-    let b9 = c .before .before .before .before .before .before .before .before .before in
-    let b12 = c .before .before .before .before .before .before .before .before .before .before .before .before in
-    let s = b12 in
+    let b3 = c .before .before .before in
+    let b7 = c .before .before .before .before .before .before .before in
+    let b10 = c .before .before .before .before .before .before .before .before .before .before in
+    let s = c .before .before .before .before .before .before .before .before .before .before .before .before .before in
     let a = s .args in
     let ws = a .words .now in
     let bs = drop (a .at) (unpacked (a .bytes .now)) in
-    let got = b6 .get-fields .last .1 .1 .1 .0 in
-    let g : got ≡ gathered (take 7 (widthsOf (a .depth))) bs = b6 .get-fields .ensures ∙ ap (λ (l : List ℕ). gathered (take 7 l) bs) (b9 .widths .ensures) in
-    let n = length-kept got ws (b2 .extended .result) (ap length g ∙ seven-got (a .depth) bs) (s .pre .1 .0 .0) in
-    let x : b2 .extended .result ≡ extendedOf (a .depth) (getD (gathered (take 7 (widthsOf (a .depth))) bs) 3 0) =
-    b2 .extended .ensures ∙ ap (extendedOf (a .depth)) (ap (λ (l : List ℕ). getD (l ++ drop 7 ws) 3 0) g ∙ depth-got (a .depth) bs ws) in
+    let got = b7 .get-fields .last .1 .1 .1 .0 in
+    let g : got ≡ gathered (take 7 (widthsOf (a .depth))) bs = b7 .get-fields .ensures ∙ ap (λ (l : List ℕ). gathered (take 7 l) bs) (b10 .widths .ensures) in
+    let n = length-kept got ws (b3 .extended .result) (ap length g ∙ seven-got (a .depth) bs) (s .pre .1 .0 .0) in
+    let x : b3 .extended .result ≡ extendedOf (a .depth) (getD (gathered (take 7 (widthsOf (a .depth))) bs) 3 0) =
+    b3 .extended .ensures ∙ ap (extendedOf (a .depth)) (ap (λ (l : List ℕ). getD (l ++ drop 7 ws) 3 0) g ∙ depth-got (a .depth) bs ws) in
     ap₂ (λ (l : List ℕ) (y : ℕ). set (set (l ++ drop 7 ws) 3 y) 7 (c .get .result)) g x
-    ∙ message-got (a .depth) bs ws (c .get .result) (sym n ∙ c .before .if1 .taken) (c .get .ensures ∙ stamp-field (a .bytes .now) (a .at) (a .depth))
+    ∙ message-got (a .depth) bs ws (c .get .result) (sym n ∙ c .before .before .if1 .taken)
+    (c .get .ensures ∙ ap (λ (w : ℕ). field (a .bytes .now) (a .at + w) 32) (c .before .height .ensures) ∙ stamp-field (a .bytes .now) (a .at) (a .depth))
 
 same-length-2 : tie.Need-same-length-2
 same-length-2 c = search needs
@@ -142,8 +142,8 @@ get-record-spec =
     slice-read-extended
     extended-requires
     slice-write-words
+    height-requires
     add-get
-    add-get-2
     get-requires
     slice-write-words-2
     same-length

@@ -1,13 +1,14 @@
 -- `image::records::put_record` meets its contract: seven words are put at the widths of a height, and a message's stamp behind them.
 use Prim.Native.Nat.{ℕ, _+_}
 use native.Mathlib.Omega.{arith}
-use mathlib.Core.Path.{_≡_, sym, ap, _∙_}
+use mathlib.Core.Path.{_≡_, sym, ap, ap₂, _∙_}
 use mathlib.Core.List.{List}
 use lib.ListN.{length, take, getD, length-take}
 use borrow.Author.Needs.{needs}
 use Rattle.bits.specs.Bits.{spread, bits}
 use Rattle.bits.specs.inner.Written.{written}
 use Rattle.bits.proofs.Bytes.{length-written}
+use Rattle.image.specs.Widths.{heightWidth}
 use Rattle.image.proofs.RecordLaws.{length-widths}
 use Rattle.image.proofs.StampLaws.{height-room, stamp-room, height-put, message-put}
 use Rattle.image.proofs.records.put_record.Statement.{statement}
@@ -40,26 +41,26 @@ put-fields-requires c κs =
       omega (arith, length-widths (a .depth) 7 (omega arith)),
     )
 
-add-put : tie.Need-add-put
-add-put c = search needs
+height-requires : tie.Need-height-requires
+height-requires c κs = search needs
 
-add-put-2 : tie.Need-add-put-2
-add-put-2 c = search needs
+add-put : tie.Need-add-put
+unfolding heightWidth
+add-put c = omega arith
 
 shared-slice-read-put : tie.Need-shared-slice-read-put
 shared-slice-read-put c = search needs
 
 put-requires : tie.Need-put-requires
 put-requires c κs =
-    let b2 = c .before .before in
-    let b5 = c .before .before .before .before .before in
-    let b9 = c .before .before .before .before .before .before .before .before .before in
-    let b12 = c .before .before .before .before .before .before .before .before .before .before .before .before in
-    let s = b12 in
+    let b3 = c .before .before .before in
+    let b6 = c .before .before .before .before .before .before in
+    let b10 = c .before .before .before .before .before .before .before .before .before .before in
+    let s = c .before .before .before .before .before .before .before .before .before .before .before .before .before in
     let a = s .args in
-    let r = stamp-room (a .buf .now) (a .at) (a .depth) (length (a .words .now)) (b2 .if1 .taken) (s .pre .0) in
-    let n = ap length (b5 .put-fields .ensures) ∙ length-written (a .buf .now) (a .at) (spread (take 7 (b9 .widths .result)) (take 7 (a .words .now))) in
-    (omega arith, (r .0, omega (arith, r .1, n)))
+    let r = stamp-room (a .buf .now) (a .at) (a .depth) (length (a .words .now)) (b3 .if1 .taken) (s .pre .0) in
+    let n = ap length (b6 .put-fields .ensures) ∙ length-written (a .buf .now) (a .at) (spread (take 7 (b10 .widths .result)) (take 7 (a .words .now))) in
+    (omega arith, (omega (arith, r .0), omega (arith, r .1, n)))
 
 same-length : tie.Need-same-length
 same-length c = search needs
@@ -67,17 +68,18 @@ same-length c = search needs
 returns : tie.Need-returns
 returns c =
     let b2 = c .before .before in
-    let b5 = c .before .before .before .before .before in
-    let b8 = c .before .before .before .before .before .before .before .before in
-    let b12 = c .before .before .before .before .before .before .before .before .before .before .before .before in
-    let b15 = c .before .before .before .before .before .before .before .before .before .before .before .before .before .before .before in
-    let s = b15 in
+    let b4 = c .before .before .before .before in
+    let b6 = c .before .before .before .before .before .before in
+    let b9 = c .before .before .before .before .before .before .before .before .before in
+    let b13 = c .before .before .before .before .before .before .before .before .before .before .before .before .before in
+    let s = c .before .before .before .before .before .before .before .before .before .before .before .before .before .before .before .before in
     let a = s .args in
-    let r = stamp-room (a .buf .now) (a .at) (a .depth) (length (a .words .now)) (b5 .if1 .taken) (s .pre .0) in
+    let r = stamp-room (a .buf .now) (a .at) (a .depth) (length (a .words .now)) (b6 .if1 .taken) (s .pre .0) in
     b2 .put .ensures
-    ∙ ap (λ (l : List ℕ). written l (a .at + (80 + a .depth)) (bits 32 (getD (a .words .now) 7 0)))
-    (b8 .put-fields .ensures ∙ ap (λ (l : List ℕ). written (a .buf .now) (a .at) (spread (take 7 l) (take 7 (a .words .now)))) (b12 .widths .ensures))
-    ∙ message-put (a .buf .now) (a .at) (a .depth) (a .words .now) (b5 .if1 .taken) (r .1)
+    ∙ ap₂ (λ (l : List ℕ) (w : ℕ). written l (a .at + w) (bits 32 (getD (a .words .now) 7 0)))
+    (b9 .put-fields .ensures ∙ ap (λ (l : List ℕ). written (a .buf .now) (a .at) (spread (take 7 l) (take 7 (a .words .now)))) (b13 .widths .ensures))
+    (b4 .height .ensures)
+    ∙ message-put (a .buf .now) (a .at) (a .depth) (a .words .now) (b6 .if1 .taken) (r .1)
 
 same-length-2 : tie.Need-same-length-2
 same-length-2 c = search needs
@@ -101,8 +103,8 @@ put-record-spec =
     slice-aggregate-put-fields
     slice-aggregate-put-fields-2
     put-fields-requires
+    height-requires
     add-put
-    add-put-2
     shared-slice-read-put
     put-requires
     same-length

@@ -3,7 +3,7 @@ use Prim.Native.Nat.{_-_, _*_}
 use native.Mathlib.Omega.{arith}
 use mathlib.Core.Path.{_≡_, _∙_}
 use lib.ListN.{length, take, drop}
-use Rattle.image.specs.Widths.{heightWidth, nodeWidth}
+use Rattle.image.specs.Widths.{nodeWidth}
 use Rattle.image.proofs.PartCalls.{rest-length, inside-after, row-put}
 use Rattle.image.proofs.PartTurns.{heights, behind-sets}
 use borrow.Author.Needs.{needs}
@@ -40,8 +40,8 @@ put-requires-3 c κs = omega arith
 add-put-records : tie.Need-add-put-records
 add-put-records c = search needs
 
-add-put-records-2 : tie.Need-add-put-records-2
-add-put-records-2 c = search needs
+height-requires : tie.Need-height-requires
+height-requires c κs = search needs
 
 sub-put-records : tie.Need-sub-put-records
 sub-put-records c = search needs
@@ -53,21 +53,20 @@ part-put-records-end : tie.Need-part-put-records-end
 part-put-records-end c = search needs
 
 put-records-requires : tie.Need-put-records-requires
-unfolding heightWidth
 put-records-requires c κs =
-    let third = c .before .before .before .before in
+    let third = c .before .before .before .before .before in
     let s = third .before .before .before .before .before .before .before .before .before .before .before .before .before .before .before in
     let row = s .args .row .now in
     let len : length (take (length row - 3) (drop 3 row)) ≡ s .args .n * 7 = rest-length 3 row ∙ omega arith in
     let same : length (third .put3 .last .0) ≡ length (s .args .buf .now) = omega arith in
-    heights (s .pre .0, s .pre .1, len, inside-after same (behind-sets (s .args .depth) (s .args .n) (s .pre .3)))
+    rw (c .before .height .ensures) (heights (s .pre .0, s .pre .1, len, inside-after same (behind-sets (s .args .depth) (s .args .n) (s .pre .3))))
 
 same-length : tie.Need-same-length
 same-length c = search needs
 
 returns : tie.Need-returns
 returns c =
-    let third = c .before .before .before .before .before .before .before in
+    let third = c .before .before .before .before .before .before .before .before in
     let second = third .before .before .before .before .before in
     let first = second .before .before .before .before .before in
     let s = first .before .before .before .before .before in
@@ -87,7 +86,7 @@ put-row-spec =
     shared-slice-read-put-3
     put-requires-3
     add-put-records
-    add-put-records-2
+    height-requires
     sub-put-records
     part-put-records-start
     part-put-records-end
