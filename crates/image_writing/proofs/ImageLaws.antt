@@ -1,7 +1,6 @@
 -- Document 01's image of tables that fit: how far its parts reach, that bytes as many as the image's have room for them, and that
 -- they make the image when they are written end to end (`image-written`). Assumes that the tables fit.
 use Prim.Native.Nat.{ℕ, _+_, _-_, _*_, _/_, _%_, _^_, _≤_, _<_}
-use native.Mathlib.Nat.{mul-le-mul}
 use native.Mathlib.Omega.{arith}
 use mathlib.Core.List.{List, _++_, append-assoc}
 use mathlib.Core.Path.{_≡_, sym, ap, _∙_}
@@ -10,8 +9,9 @@ use Rattle.bits.specs.inner.Written.{written}
 use Rattle.bits.proofs.Bytes.{written-written}
 use Rattle.bits.proofs.Numbers.{Below, below-append}
 use Rattle.image.specs.Image.{headerBits, padded, image}
-use Rattle.image.specs.Widths.{heightWidth, nodeWidth}
+use Rattle.image.specs.Widths.{nodeWidth}
 use Rattle.image.specs.inner.Parts.{Inside, Depth}
+use Rattle.image.proofs.Bounds.{nodes-small}
 use Rattle.image.proofs.ImageBits.{below-header, length-header, length-bytes}
 use Rattle.tables.specs.Load.{load}
 use Rattle.tables.specs.Tables.{Tables}
@@ -26,17 +26,16 @@ depth-16 = record { low = omega arith; high = omega arith }
 
 -- where the channels start, and where they end
 abbrev cellsStart : ℕ → ℕ
-cellsStart n = 32 + n * (64 + 96 * n)
+cellsStart n = 32 + n * nodeWidth 16 n
 
 abbrev cellsEnd : ℕ → Tables → ℕ
-cellsEnd n t = 32 + n * (64 + 96 * n) + length (cellsBits 16 n (t .channels))
+cellsEnd n t = cellsStart n + length (cellsBits 16 n (t .channels))
 
 module _ (n : ℕ) (t : Tables) (fit : TablesFit n t) where
   pub counts : Counts n (t .channels)
   counts = record { few = λ u v a b. fit .cells u v a b .few }
 
-  nodes-end : length (nodesBits 16 n (t .nodes)) ≡ n * (64 + 96 * n)
-  unfolding nodeWidth heightWidth
+  nodes-end : length (nodesBits 16 n (t .nodes)) ≡ n * nodeWidth 16 n
   nodes-end = length-nodes 16 n (t .nodes) (fit .size .nodes)
 
   words-end : length (wordsBits 1 32 16 n t) ≡ cellsEnd n t
@@ -46,13 +45,12 @@ module _ (n : ℕ) (t : Tables) (fit : TablesFit n t) where
       let cs : List ℕ = cellsBits 16 n (t .channels) in
       omega (arith, length-append (headerBits 1 32 n) (ns ++ cs), length-append ns cs, length-header 1 32 n (omega arith), nodes-end)
 
-  pub end-le : cellsEnd n t ≤ 321568
+  pub end-le : cellsEnd n t ≤ 325664
   unfolding cellsBits
   end-le =
       let few = fit .size .few in
-      let a : 64 + 96 * n ≤ 1600 = omega (arith, few) in
-      let b : n * (64 + 96 * n) ≤ 16 * 1600 = mul-le-mul few a in
-      omega (arith, b, cells-le 16 n (t .channels) depth-16 (fit .size .channels) counts n (omega arith), cells-most n n few few)
+      let nodes = nodes-small 16 n (omega arith) few in
+      omega (arith, nodes, cells-le 16 n (t .channels) depth-16 (fit .size .channels) counts n (omega arith), cells-most n n few few)
 
   pub length-image : length (image n (load n t)) ≡ (cellsEnd n t + 7) / 8
   length-image = ap length (image-words n t fit) ∙ length-bytes (wordsBits 1 32 16 n t) ∙ ap (λ (k : ℕ). (k + 7) / 8) words-end
@@ -74,7 +72,6 @@ module _ (n : ℕ) (t : Tables) (fit : TablesFit n t) where
 
     module _ (ys : List ℕ) (same : length ys ≡ length xs) where
       pub nodes-room : Inside ys 32 (n * nodeWidth 16 n)
-      unfolding nodeWidth heightWidth
       nodes-room = record { small = omega (arith, end-le); inside = omega (arith, end-in, same) }
 
       pub cells-room : Inside ys (cellsStart n) (length (cellsBits 16 n (t .channels)))

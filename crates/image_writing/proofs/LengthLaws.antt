@@ -64,11 +64,6 @@ pub other-cell : (d n : ℕ) (cs : List ℕ) (u v : ℕ) → (u ≡ v → ⊥) �
 unfolding cellBitsAt
 other-cell d n cs u v e = rw (ne-eqb u v e)
 
--- c messages of at most 144 bits
-messages-le : (d c : ℕ) → Depth d → c ≤ 8 → c * messageWidth d ≤ 1152
-unfolding messageWidth
-messages-le d c w h = messages-small c d h (w .high)
-
 -- the channel from u to v, which holds c messages
 module _ (d n : ℕ) (cs : List ℕ) (u v c : ℕ) (w : Depth d) (a : Node n u) (b : Node n v)
     (size : length cs ≡ n * n * cellWidth) (counts : Counts n cs) (is : c ≡ count (channelOf n u v cs)) where
@@ -76,7 +71,7 @@ module _ (d n : ℕ) (cs : List ℕ) (u v c : ℕ) (w : Depth d) (a : Node n u) 
   waiting-few = rw is (counts .few u v a b)
 
   pub waiting-le : c * messageWidth d ≤ 1152
-  waiting-le = messages-le d c w waiting-few
+  waiting-le = messages-small c d waiting-few (w .high)
 
   pub length-cell : (u ≡ v → ⊥) → length (cellBitsAt d n cs u v) ≡ 4 + c * messageWidth d
   length-cell e =
@@ -122,7 +117,7 @@ module _ (d n : ℕ) (cs : List ℕ) (w : Depth d) (size : length cs ≡ n * n *
       go (inl e) = rw (own-none d n cs u v e) (omega arith)
       go (inr e) =
           let c : ℕ = count (channelOf n u v cs) in
-          omega (arith, length-cell d n cs u v c w a b size counts refl e, messages-le d c w (counts .few u v a b))
+          omega (arith, length-cell d n cs u v c w a b size counts refl e, messages-small c d (counts .few u v a b) (w .high))
 
   -- the channels from u to k nodes, and those from k nodes
   pub cells-from-le : (u k : ℕ) → Node n u → k ≤ n → length (rows k (cellBitsAt d n cs u)) ≤ k * 1156

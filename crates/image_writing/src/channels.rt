@@ -13,7 +13,7 @@ fn cells_from_length(depth: u8, n: u32, u: u32, channels: &[u32]) -> usize
     requires { ⌜ Depth depth × (n ≤ 16) × Node n u × (length (now channels) ≡ n * n * cellWidth) × Counts n (now channels) ⌝ }
     ensures { λ r. ⌜ (r ≡ length (cellsFromBits depth n (now (channels .entry)) u)) × (r ≤ n * 1156) ⌝ }
 {
-    let w = image::MESSAGE_REST + depth as usize;
+    let w = image::widths::message(depth);
     let mut sum: usize = 0;
     let mut v = 1;
     while v <= n {

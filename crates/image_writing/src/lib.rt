@@ -11,8 +11,7 @@ ghost use Rattle.tables.specs.inner.Fit.{given};
 ghost use Rattle.tables.specs.inner.Fit.{TablesFit};
 use image::DEPTH_WIDTH;
 use image::HEADER_END;
-use image::HEIGHT_WIDTH;
-use image::NODE_HEAD;
+use image::widths;
 
 mod channels;
 mod nodes;
@@ -24,7 +23,7 @@ pub fn image_length(n: u32, nodes: &[u32], channels: &[u32]) -> usize
 {
     let k = n as usize;
     let end = HEADER_END
-        + k * (NODE_HEAD + HEIGHT_WIDTH * k)
+        + k * widths::node(DEPTH_WIDTH, k)
         + channels::cells_length(DEPTH_WIDTH, n, channels);
     (end + 7) / 8
 }
@@ -38,7 +37,7 @@ pub fn write(n: u32, nodes: &[u32], channels: &[u32], out: &mut [u8])
     let k = n as usize;
     nodes::put_header(out, n);
     nodes::put_nodes(out, HEADER_END, DEPTH_WIDTH, n, nodes);
-    let start = HEADER_END + k * (NODE_HEAD + HEIGHT_WIDTH * k);
+    let start = HEADER_END + k * widths::node(DEPTH_WIDTH, k);
     let end = channels::put_cells(out, start, DEPTH_WIDTH, n, channels);
     nodes::put_pad(out, end);
 }

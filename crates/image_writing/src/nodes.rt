@@ -26,7 +26,7 @@ pub fn put_nodes(buf: &mut [u8], at: usize, depth: u8, n: u32, nodes: &[u32])
     ensures { λ _. ⌜ now (buf .exit) ≡ written (now (buf .entry)) at (nodesBits depth n (now (nodes .entry))) ⌝ }
 {
     let k = n as usize;
-    let w = image::NODE_HEAD + (image::HEIGHT_REST + depth as usize) * k;
+    let w = image::widths::node(depth, k);
     let mut place = at;
     let mut u = 1;
     while u <= n {

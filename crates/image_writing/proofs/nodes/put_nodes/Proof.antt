@@ -6,9 +6,8 @@ use mathlib.Core.List.{List}
 use mathlib.Core.Path.{_≡_, ap, _∙_}
 use lib.ListN.{length}
 use Rattle.bits.specs.inner.Written.{written}
-use Rattle.image.specs.Widths.{heightWidth, nodeWidth}
+use Rattle.image.specs.Widths.{nodeWidth}
 use Rattle.image.specs.inner.Parts.{Inside, rowBits}
-use Rattle.image.proofs.Bounds.{heights-small}
 use Rattle.tables.specs.Tables.{width, nodeOf}
 use Rattle.image_writing.specs.inner.Words.{nodesBits}
 use Rattle.image_writing.proofs.LengthLaws.{nodeBitsAt, below-node, length-node, nodes-inside}
@@ -34,53 +33,45 @@ row-put : (d n : ℕ) (ns ys zs r : List ℕ) (place u : ℕ) → zs ≡ written
 unfolding nodeBitsAt
 row-put d n ns ys zs r place u e is = e ∙ ap (λ (l : List ℕ). written ys place (rowBits d n l)) is
 
-add-w : tie.Need-add-w Inv-loop μ-loop
-add-w c = omega (arith, c .before .before .pre .0 .high)
-
-mul-w : tie.Need-mul-w Inv-loop μ-loop
-mul-w c = omega (arith, heights-small _ _ (c .before .before .pre .0 .high) (c .before .before .pre .1))
-
-add-w-2 : tie.Need-add-w-2 Inv-loop μ-loop
-add-w-2 c = omega (arith, heights-small _ _ (c .before .before .pre .0 .high) (c .before .before .pre .1))
+node-requires : tie.Need-node-requires Inv-loop μ-loop
+node-requires c κs = c .before .before .pre .1
 
 loop-holds : tie.Need-loop-holds Inv-loop μ-loop
-loop-holds c = laid-start _ _ _ _ (λ i. c .before .slice-known .given i .fits) (omega (arith, c .before .before .pre .3 .inside))
+loop-holds c = laid-start _ _ _ _ (λ i. c .before .before .slice-known .given i .fits) (omega (arith, c .before .before .before .pre .3 .inside))
 
-node-requires : tie.Need-node-requires Inv-loop μ-loop
-node-requires c κs =
-    let s = c .before .before .before .before .before in
+node-requires-2 : tie.Need-node-requires-2 Inv-loop μ-loop
+node-requires-2 c κs =
+    let s = c .before .before .before .before .before .before in
     (s .pre .1, record { low = c .before .before .loop .inv .low; high = c .before .loop-test .taken }, s .pre .2)
 
 put-row-requires : tie.Need-put-row-requires Inv-loop μ-loop
 put-row-requires c κs =
-    let s = c .before .before .before .before .before .before in
+    let s = c .before .before .before .before .before .before .before in
     let room = row-room _ _ _ _ _ _ _ _ (c .before .before .before .loop .inv) (c .before .before .loop-test .taken) (s .pre .2) (s .pre .3) in
-    (s .pre .0, s .pre .1, c .node .ensures .1, room)
+    (s .pre .0, s .pre .1, c .node2 .ensures .1, room)
 
 add-place : tie.Need-add-place Inv-loop μ-loop
-unfolding nodeWidth heightWidth
 add-place c =
-    let s = c .before .before .before .before .before .before .before .before .before in
+    let s = c .before .before .before .before .before .before .before .before .before .before in
     let l = c .before .before .before .before .before .before .loop in
     omega (arith, row-room _ _ _ _ _ _ _ _ (l .inv) (c .before .before .before .before .before .loop-test .taken) (s .pre .2) (s .pre .3) .small)
 
 add-u : tie.Need-add-u Inv-loop μ-loop
 add-u c =
-    let s = c .before .before .before .before .before .before .before .before .before in
+    let s = c .before .before .before .before .before .before .before .before .before .before in
     omega (arith, s .pre .1, c .before .before .before .before .before .loop-test .taken)
 
 loop-less : tie.Need-loop-less Inv-loop μ-loop
 loop-less c = omega (arith, c .before .before .before .before .before .loop-test .taken)
 
 loop-again : tie.Need-loop-again Inv-loop μ-loop
-unfolding nodeWidth heightWidth
 loop-again c =
-    let s = c .before .before .before .before .before .before .before .before .before in
+    let s = c .before .before .before .before .before .before .before .before .before .before in
     let a = s .args in
     let l = c .before .before .before .before .before .before .loop in
     let taken = c .before .before .before .before .before .loop-test .taken in
     let e = length-node (a .depth) (a .n) (a .nodes .now) (s .pre .2) (l .u) (record { low = l .inv .low; high = taken }) in
-    let is = row-put (a .depth) (a .n) (a .nodes .now) _ _ _ _ (l .u) (c .before .before .put-row .ensures) (c .before .before .before .node .ensures .0) in
+    let is = row-put (a .depth) (a .n) (a .nodes .now) _ _ _ _ (l .u) (c .before .before .put-row .ensures) (c .before .before .before .node2 .ensures .0) in
     laid-next _ _ _ _ _ _ _ (l .inv) taken (nodes-inside _ _ _ (s .pre .2) (s .pre .3)) (below-node _ _ _) is (omega (arith, e))
 
 same-length : tie.Need-same-length Inv-loop μ-loop
@@ -96,11 +87,9 @@ put-nodes-spec =
     (tie.spec
     Inv-loop
     μ-loop
-    add-w
-    mul-w
-    add-w-2
-    loop-holds
     node-requires
+    loop-holds
+    node-requires-2
     put-row-requires
     add-place
     add-u
