@@ -12,7 +12,7 @@ use lib.Seq.{take-all}
 use Rattle.bits.specs.Bits.{number, field, unpacked}
 use Rattle.bits.proofs.Bytes.{length-unpacked}
 use Rattle.image.specs.Places.{fieldIn, channelsPlace}
-use Rattle.image.specs.Widths.{messageWidth, heightWidth, nodeWidth}
+use Rattle.image.specs.Widths.{messageWidth, nodeWidth}
 use Rattle.refusal.specs.declared.Refusal.the-variants.{Fault, BadEnd}
 use Rattle.image_reading.specs.Walk.{channelStep, channelsWalk, walk, endsAt}
 use Rattle.image_reading.specs.declared.Walk.the-variants.{At, Refused}
@@ -51,24 +51,24 @@ module _ (d : ℕ) (xs : List ℕ) (u v q : ℕ) (other : u ≡ v → ⊥) where
     unfolding channelStep
     too-many h = rw (ne-eqb u v other, count-stands xs q stands, same, lt-ltb 8 c h)
 
-    pub messages-cut : c ≤ 8 → length xs < (q + 4 + c * (112 + d) + 7) / 8 → Refused BadEnd ≡ channelStep d (unpacked xs) u v q
-    unfolding channelStep messageWidth
-    messages-cut h k = rw (ne-eqb u v other, count-stands xs q stands, same, le-ltb 8 c h, cut-off xs (q + 4 + c * (112 + d)) k)
+    pub messages-cut : c ≤ 8 → length xs < (q + 4 + c * messageWidth d + 7) / 8 → Refused BadEnd ≡ channelStep d (unpacked xs) u v q
+    unfolding channelStep
+    messages-cut h k = rw (ne-eqb u v other, count-stands xs q stands, same, le-ltb 8 c h, cut-off xs (q + 4 + c * messageWidth d) k)
 
-    pub goes-on : c ≤ 8 → (q + 4 + c * (112 + d) + 7) / 8 ≤ length xs → At (q + 4 + c * (112 + d)) ≡ channelStep d (unpacked xs) u v q
-    unfolding channelStep messageWidth
-    goes-on h k = rw (ne-eqb u v other, count-stands xs q stands, same, le-ltb 8 c h, not-cut xs (q + 4 + c * (112 + d)) k)
+    pub goes-on : c ≤ 8 → (q + 4 + c * messageWidth d + 7) / 8 ≤ length xs → At (q + 4 + c * messageWidth d) ≡ channelStep d (unpacked xs) u v q
+    unfolding channelStep
+    goes-on h k = rw (ne-eqb u v other, count-stands xs q stands, same, le-ltb 8 c h, not-cut xs (q + 4 + c * messageWidth d) k)
 
 -- ---- the returns of whole
 module _ (h d n : ℕ) (xs : List ℕ) where
-  pub nodes-cut : length xs < (h + n * (64 + (80 + d) * n) + 7) / 8 → Refused BadEnd ≡ walk h d n (unpacked xs)
-  unfolding walk channelsPlace nodeWidth heightWidth
-  nodes-cut k = rw (cut-off xs (h + n * (64 + (80 + d) * n)) k)
+  pub nodes-cut : length xs < (h + n * nodeWidth d n + 7) / 8 → Refused BadEnd ≡ walk h d n (unpacked xs)
+  unfolding walk channelsPlace
+  nodes-cut k = rw (cut-off xs (h + n * nodeWidth d n) k)
 
-  pub nodes-stand : (w : Walk) → (h + n * (64 + (80 + d) * n) + 7) / 8 ≤ length xs
-      → w ≡ channelsWalk d n (unpacked xs) (h + n * (64 + (80 + d) * n)) → w ≡ walk h d n (unpacked xs)
-  unfolding walk channelsPlace nodeWidth heightWidth
-  nodes-stand w k e = rw (not-cut xs (h + n * (64 + (80 + d) * n)) k) e
+  pub nodes-stand : (w : Walk) → (h + n * nodeWidth d n + 7) / 8 ≤ length xs
+      → w ≡ channelsWalk d n (unpacked xs) (h + n * nodeWidth d n) → w ≡ walk h d n (unpacked xs)
+  unfolding walk channelsPlace
+  nodes-stand w k e = rw (not-cut xs (h + n * nodeWidth d n) k) e
 
 -- ---- the returns of ends_at
 module _ (xs : List ℕ) (q : ℕ) where

@@ -132,15 +132,15 @@ pub record Stepped (d : ℕ) (l : List ℕ) (u v q r : ℕ) : Type 0 where
   pub few : (u ≡ v → ⊥) → fieldIn l q 4 ≤ 8
 
 pub channel-stepped : (d : ℕ) (l : List ℕ) (u v q r : ℕ) → d ≤ 32 → channelStep d l u v q ≡ At r → Stepped d l u v q r
-unfolding channelStep messageWidth
+unfolding channelStep
 channel-stepped d l u v q r small e =
-    go (eqb u v) (ltb (length l) (q + 4)) (ltb 8 c) (ltb (length l) (q + 4 + c * (112 + d))) refl refl refl e
+    go (eqb u v) (ltb (length l) (q + 4)) (ltb 8 c) (ltb (length l) (q + 4 + c * messageWidth d)) refl refl refl e
   where
     c : ℕ
     c = fieldIn l q 4
 
-    go : (a b f g : Bool) → eqb u v ≡ a → ltb 8 c ≡ f → ltb (length l) (q + 4 + c * (112 + d)) ≡ g
-        → cond a (At q) (cond b (Refused BadEnd) (cond f (Refused (Fault u v)) (cond g (Refused BadEnd) (At (q + 4 + c * (112 + d)))))) ≡ At r → Stepped d l u v q r
+    go : (a b f g : Bool) → eqb u v ≡ a → ltb 8 c ≡ f → ltb (length l) (q + 4 + c * messageWidth d) ≡ g
+        → cond a (At q) (cond b (Refused BadEnd) (cond f (Refused (Fault u v)) (cond g (Refused BadEnd) (At (q + 4 + c * messageWidth d))))) ≡ At r → Stepped d l u v q r
     go true b f g ea ef eg w =
         let z : q ≡ r = cc in
         record {
@@ -152,10 +152,10 @@ channel-stepped d l u v q r small e =
     go false false true g ea ef eg w = absurd (let z : _≡_ {A = ℕ} 0 1 = cc in omega arith)
     go false false false true ea ef eg w = absurd (let z : _≡_ {A = ℕ} 0 1 = cc in omega arith)
     go false false false false ea ef eg w =
-        let z : q + 4 + c * (112 + d) ≡ r = cc in
-        let wide : c * (112 + d) ≤ 1152 = messages-small c d (ltb-false 8 c ef) small in
+        let z : q + 4 + c * messageWidth d ≡ r = cc in
+        let wide : c * messageWidth d ≤ 1152 = messages-small c d (ltb-false 8 c ef) small in
         record {
           place = sym z ∙ sym (next-other d l u v q ea);
-          near = record { near = omega arith; inside = λ h. omega (arith, ltb-false (length l) (q + 4 + c * (112 + d)) eg) };
+          near = record { near = omega arith; inside = λ h. omega (arith, ltb-false (length l) (q + 4 + c * messageWidth d) eg) };
           few = λ other. ltb-false 8 c ef;
         }

@@ -11,7 +11,7 @@ use lib.Dec.{ltb, eqb}
 use lib.ListN.{length}
 use Rattle.image.specs.Places.{fieldIn, walked, channelNext, channelsNext, channelsPlace, channelsFromPlace, channelPlace}
 use Rattle.image.specs.inner.Parts.{imageEnd}
-use Rattle.image.specs.Widths.{messageWidth, heightWidth, nodeWidth}
+use Rattle.image.specs.Widths.{messageWidth}
 use Rattle.image.proofs.Bounds.{nodes-small}
 use Rattle.image.proofs.PlaceLaws.{channel-on, channels-on, start-in, walked-le}
 use Rattle.protocol.specs.Network.{Node, Two}
@@ -76,7 +76,7 @@ walk-starts h d n l q e = go (ltb (length l) (channelsPlace h d n)) refl e
 
 -- where the channels start, for what a header can say
 start-small : (h d n : ℕ) → h < 4096 → d ≤ 32 → n ≤ 16 → channelsPlace h d n < 33792
-unfolding channelsPlace nodeWidth heightWidth
+unfolding channelsPlace
 start-small h d n a b c = omega (arith, nodes-small d n b c)
 
 pub walk-accepted : (h d n : ℕ) (l : List ℕ) (q : ℕ) → h < 4096 → d ≤ 32 → n ≤ 16 → walk h d n l ≡ At q

@@ -70,7 +70,7 @@ fn first_fault(
     ensures { λ r. ⌜ saidCheck r ≡ firstFault n (tablesIn h depth n (unpacked (now (image .entry)))) ⌝ }
 {
     let k = n as usize;
-    let step = image::NODE_HEAD + (image::HEIGHT_REST + depth as usize) * k;
+    let step = image::widths::node(depth, k);
     let mut place = h + k * step;
     let mut u: u32 = 0;
     while u < n {

@@ -16,7 +16,7 @@ pub fn read_rows(image: &[u8], h: usize, depth: u8, n: u32, nodes: &mut [u32])
 {
     let k = n as usize;
     let wide = tables::ROW_HEAD + tables::HEIGHT_SIZE * k;
-    let step = image::NODE_HEAD + (image::HEIGHT_REST + depth as usize) * k;
+    let step = image::widths::node(depth, k);
     let mut u: usize = 0;
     while u < k {
         let a = u * wide;
@@ -63,7 +63,7 @@ pub fn read_cells(image: &[u8], h: usize, depth: u8, n: u32, channels: &mut [u32
 {
     let k = n as usize;
     let wide = k * tables::CELL_WIDTH;
-    let mut place = h + k * (image::NODE_HEAD + (image::HEIGHT_REST + depth as usize) * k);
+    let mut place = h + k * image::widths::node(depth, k);
     let mut u: u32 = 0;
     while u < n {
         let a = u as usize * wide;

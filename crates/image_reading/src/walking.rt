@@ -23,7 +23,7 @@ fn walk_channel(bytes: &[u8], depth: u8, u: u32, v: u32, at: usize) -> Walk
     if c > tables::CAPACITY {
         return Walk::Refused(Refusal::Fault(u, v));
     }
-    let next = at + 4 + c * (image::MESSAGE_REST + depth as usize);
+    let next = at + 4 + c * image::widths::message(depth);
     if (next + 7) / 8 > bytes.len() {
         return Walk::Refused(Refusal::BadEnd);
     }
@@ -72,7 +72,7 @@ pub fn whole(bytes: &[u8], h: usize, depth: u8, n: u32) -> Walk
     ensures { λ r. ⌜ r ≡ walk h depth n (unpacked (now (bytes .entry))) ⌝ }
 {
     let k = n as usize;
-    let start = h + k * (image::NODE_HEAD + (image::HEIGHT_REST + depth as usize) * k);
+    let start = h + k * image::widths::node(depth, k);
     if (start + 7) / 8 > bytes.len() {
         return Walk::Refused(Refusal::BadEnd);
     }

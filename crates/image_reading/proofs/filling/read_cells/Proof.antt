@@ -6,8 +6,7 @@ use native.Mathlib.Omega.{arith}
 use mathlib.Core.Path.{refl, sym, _∙_}
 use Rattle.bits.specs.Bits.{unpacked}
 use Rattle.image.specs.Places.{channelsPlace, recordsIn, tablesIn}
-use Rattle.image.specs.Widths.{heightWidth, nodeWidth}
-use Rattle.image.proofs.Bounds.{heights-small, nodes-small}
+use Rattle.image.proofs.Bounds.{nodes-small}
 use Rattle.image.proofs.PartLaws.{records-shaped}
 use Rattle.tables.specs.Records.{cellWords, tablesFrom}
 use Rattle.tables.specs.Rows.{rows}
@@ -31,38 +30,36 @@ abbrev μ-loop : tie.MeasureT-loop
 mul-wide : tie.Need-mul-wide Inv-loop μ-loop
 mul-wide c = omega arith
 
-add-place : tie.Need-add-place Inv-loop μ-loop
-add-place c = omega arith
+node-requires : tie.Need-node-requires Inv-loop μ-loop
+node-requires c κs = c .before .before .pre .1
 
 mul-place : tie.Need-mul-place Inv-loop μ-loop
-mul-place c = let s = c .before .before in omega (arith, heights-small (s .args .depth) (s .args .n) (s .pre .0 .high) (s .pre .1))
+mul-place c =
+    let s = c .before .before .before in
+    rw (c .node .ensures) (omega (arith, nodes-small (s .args .depth) (s .args .n) (s .pre .0 .high) (s .pre .1)))
 
-add-place-2 : tie.Need-add-place-2 Inv-loop μ-loop
-add-place-2 c = let s = c .before .before in omega (arith, heights-small (s .args .depth) (s .args .n) (s .pre .0 .high) (s .pre .1))
-
-mul-place-2 : tie.Need-mul-place-2 Inv-loop μ-loop
-mul-place-2 c = let s = c .before .before in omega (arith, nodes-small (s .args .depth) (s .args .n) (s .pre .0 .high) (s .pre .1))
-
-add-place-3 : tie.Need-add-place-3 Inv-loop μ-loop
-add-place-3 c = let s = c .before .before in omega (arith, nodes-small (s .args .depth) (s .args .n) (s .pre .0 .high) (s .pre .1))
+add-place : tie.Need-add-place Inv-loop μ-loop
+add-place c =
+    let s = c .before .before .before in
+    rw (c .node .ensures) (omega (arith, nodes-small (s .args .depth) (s .args .n) (s .pre .0 .high) (s .pre .1)))
 
 loop-holds : tie.Need-loop-holds Inv-loop μ-loop
-unfolding channelsPlace nodeWidth heightWidth
+unfolding channelsPlace
 loop-holds c =
-    let s = c .before .before in
-    (fill-start (s .pre .3 ∙ mul-assoc (s .args .n) (s .args .n) cellWidth), channels-start)
+    let s = c .before .before .before in
+    (fill-start (s .pre .3 ∙ mul-assoc (s .args .n) (s .args .n) cellWidth), rw (c .node .ensures) channels-start)
 
 cast-a : tie.Need-cast-a Inv-loop μ-loop
 cast-a c = omega arith
 
 mul-a : tie.Need-mul-a Inv-loop μ-loop
 mul-a c =
-    let s = c .before .before .before .before in
+    let s = c .before .before .before .before .before in
     omega (arith, row-fits (s .args .n * cellWidth) (c .before .loop .u) (s .args .n) (c .loop-test .taken), cell-rows-small (s .args .n) (s .pre .1))
 
 add-e : tie.Need-add-e Inv-loop μ-loop
 add-e c =
-    let s = c .before .before .before .before in
+    let s = c .before .before .before .before .before in
     omega (arith, row-fits (s .args .n * cellWidth) (c .before .loop .u) (s .args .n) (c .loop-test .taken), cell-rows-small (s .args .n) (s .pre .1))
 
 add-read-cells-from : tie.Need-add-read-cells-from Inv-loop μ-loop
@@ -70,7 +67,7 @@ add-read-cells-from c = omega arith
 
 mul-read-cells-from : tie.Need-mul-read-cells-from Inv-loop μ-loop
 mul-read-cells-from c =
-    let s = c .before .before .before .before in
+    let s = c .before .before .before .before .before in
     omega (arith, row-fits (s .args .n * cellWidth) (c .before .loop .u) (s .args .n) (c .loop-test .taken), cell-rows-small (s .args .n) (s .pre .1))
 
 sub-read-cells-from : tie.Need-sub-read-cells-from Inv-loop μ-loop
@@ -78,17 +75,17 @@ sub-read-cells-from c = omega arith
 
 part-read-cells-from-start : tie.Need-part-read-cells-from-start Inv-loop μ-loop
 part-read-cells-from-start c =
-    let s = c .before .before .before .before in
+    let s = c .before .before .before .before .before in
     omega (arith, row-fits (s .args .n * cellWidth) (c .before .loop .u) (s .args .n) (c .loop-test .taken), c .before .loop .inv .0 .size)
 
 part-read-cells-from-end : tie.Need-part-read-cells-from-end Inv-loop μ-loop
 part-read-cells-from-end c =
-    let s = c .before .before .before .before in
+    let s = c .before .before .before .before .before in
     omega (arith, row-fits (s .args .n * cellWidth) (c .before .loop .u) (s .args .n) (c .loop-test .taken), c .before .loop .inv .0 .size)
 
 read-cells-from-requires : tie.Need-read-cells-from-requires Inv-loop μ-loop
 read-cells-from-requires c κs =
-    let s = c .before .before .before .before .before in
+    let s = c .before .before .before .before .before .before in
     let l = c .before .before .loop in
     let more = c .before .loop-test .taken in
     (s .pre .0, s .pre .1, fill-wide (l .inv .0) more refl refl, channels-of (l .inv .1) (s .pre .4) more)
@@ -101,7 +98,7 @@ loop-less c = omega arith
 
 loop-again : tie.Need-loop-again Inv-loop μ-loop
 loop-again c =
-    let s = c .before .before .before .before .before .before .before .before in
+    let s = c .before .before .before .before .before .before .before .before .before in
     let l = c .before .before .before .before .before .loop in
     let more = c .before .before .before .before .loop-test .taken in
     let got = c .before .before .read-cells-from .ensures in (
@@ -112,7 +109,7 @@ loop-again c =
 
 same-length : tie.Need-same-length Inv-loop μ-loop
 same-length c =
-    let s = c .before .before .before .before in
+    let s = c .before .before .before .before .before in
     c .before .loop .inv .0 .size ∙ sym (s .pre .3 ∙ mul-assoc (s .args .n) (s .args .n) cellWidth)
 
 returns : tie.Need-returns Inv-loop μ-loop
@@ -126,11 +123,9 @@ read-cells-spec =
     Inv-loop
     μ-loop
     mul-wide
-    add-place
+    node-requires
     mul-place
-    add-place-2
-    mul-place-2
-    add-place-3
+    add-place
     loop-holds
     cast-a
     mul-a

@@ -4,8 +4,6 @@ use native.Mathlib.Omega.{arith}
 use mathlib.Core.Path.{refl, sym, _∙_}
 use Rattle.bits.specs.Bits.{unpacked}
 use Rattle.image.specs.Places.{recordsIn, tablesIn}
-use Rattle.image.specs.Widths.{heightWidth, nodeWidth}
-use Rattle.image.proofs.Bounds.{heights-small}
 use Rattle.image.proofs.PartLaws.{records-shaped}
 use Rattle.tables.specs.Records.{rowWords, tablesFrom}
 use Rattle.tables.specs.Tables.{width}
@@ -30,39 +28,33 @@ mul-wide c = omega arith
 add-wide : tie.Need-add-wide Inv-loop μ-loop
 add-wide c = omega arith
 
-add-step : tie.Need-add-step Inv-loop μ-loop
-add-step c = omega arith
-
-mul-step : tie.Need-mul-step Inv-loop μ-loop
-mul-step c = let s = c .before .before in omega (arith, heights-small (s .args .depth) (s .args .n) (s .pre .0 .high) (s .pre .1))
-
-add-step-2 : tie.Need-add-step-2 Inv-loop μ-loop
-add-step-2 c = let s = c .before .before in omega (arith, heights-small (s .args .depth) (s .args .n) (s .pre .0 .high) (s .pre .1))
+node-requires : tie.Need-node-requires Inv-loop μ-loop
+node-requires c κs = c .before .before .pre .1
 
 loop-holds : tie.Need-loop-holds Inv-loop μ-loop
-loop-holds c = fill-start (c .before .before .pre .3)
+loop-holds c = fill-start (c .before .before .before .pre .3)
 
 mul-a : tie.Need-mul-a Inv-loop μ-loop
 mul-a c =
-    let s = c .before .before .before .before in
+    let s = c .before .before .before .before .before in
     omega (arith, row-fits (width (s .args .n)) (c .before .loop .u) (s .args .n) (c .loop-test .taken), rows-small (s .args .n) (s .pre .1))
 
 add-e : tie.Need-add-e Inv-loop μ-loop
 add-e c =
-    let s = c .before .before .before .before in
+    let s = c .before .before .before .before .before in
     omega (arith, row-fits (width (s .args .n)) (c .before .loop .u) (s .args .n) (c .loop-test .taken), rows-small (s .args .n) (s .pre .1))
 
 mul-get-row : tie.Need-mul-get-row Inv-loop μ-loop
-unfolding nodeWidth heightWidth
-mul-get-row c = omega (arith, node-inside (c .before .before .before .before .pre .4) (c .before .loop .u) (c .loop-test .taken) .small)
+mul-get-row c =
+    rw (c .before .before .node .ensures) (omega (arith, node-inside (c .before .before .before .before .before .pre .4) (c .before .loop .u) (c .loop-test .taken) .small))
 
 add-get-row : tie.Need-add-get-row Inv-loop μ-loop
-unfolding nodeWidth heightWidth
-add-get-row c = omega (arith, node-inside (c .before .before .before .before .pre .4) (c .before .loop .u) (c .loop-test .taken) .small)
+add-get-row c =
+    rw (c .before .before .node .ensures) (omega (arith, node-inside (c .before .before .before .before .before .pre .4) (c .before .loop .u) (c .loop-test .taken) .small))
 
 mul-get-row-2 : tie.Need-mul-get-row-2 Inv-loop μ-loop
 mul-get-row-2 c =
-    let s = c .before .before .before .before in
+    let s = c .before .before .before .before .before in
     omega (arith, row-fits (width (s .args .n)) (c .before .loop .u) (s .args .n) (c .loop-test .taken), rows-small (s .args .n) (s .pre .1))
 
 sub-get-row : tie.Need-sub-get-row Inv-loop μ-loop
@@ -70,21 +62,20 @@ sub-get-row c = omega arith
 
 part-get-row-start : tie.Need-part-get-row-start Inv-loop μ-loop
 part-get-row-start c =
-    let s = c .before .before .before .before in
+    let s = c .before .before .before .before .before in
     omega (arith, row-fits (width (s .args .n)) (c .before .loop .u) (s .args .n) (c .loop-test .taken), c .before .loop .inv .size)
 
 part-get-row-end : tie.Need-part-get-row-end Inv-loop μ-loop
 part-get-row-end c =
-    let s = c .before .before .before .before in
+    let s = c .before .before .before .before .before in
     omega (arith, row-fits (width (s .args .n)) (c .before .loop .u) (s .args .n) (c .loop-test .taken), c .before .loop .inv .size)
 
 get-row-requires : tie.Need-get-row-requires Inv-loop μ-loop
-unfolding nodeWidth heightWidth
 get-row-requires c κs =
-    let s = c .before .before .before .before .before in
+    let s = c .before .before .before .before .before .before in
     let l = c .before .before .loop in
     let more = c .before .loop-test .taken in
-    (s .pre .0, s .pre .1, fill-wide (l .inv) more refl refl, node-inside (s .pre .4) (l .u) more)
+    (s .pre .0, s .pre .1, fill-wide (l .inv) more refl refl, rw (c .before .before .before .node .ensures) (node-inside (s .pre .4) (l .u) more))
 
 add-u : tie.Need-add-u Inv-loop μ-loop
 add-u c = omega arith
@@ -93,17 +84,16 @@ loop-less : tie.Need-loop-less Inv-loop μ-loop
 loop-less c = omega arith
 
 loop-again : tie.Need-loop-again Inv-loop μ-loop
-unfolding nodeWidth heightWidth
 loop-again c =
-    let s = c .before .before .before .before .before .before .before .before in
+    let s = c .before .before .before .before .before .before .before .before .before in
     let l = c .before .before .before .before .before .loop in
     let more = c .before .before .before .before .loop-test .taken in
     fill-next (l .inv) more refl refl
-    (row-got (s .args .h) (s .args .depth) (s .args .n) _ (l .u) (c .before .before .get-row .ensures))
+    (row-got (s .args .h) (s .args .depth) (s .args .n) _ (l .u) (rw (c .before .before .before .before .before .before .node .ensures) at (c .before .before .get-row .ensures)))
     (length-row (s .args .n) _ (records-shaped (s .args .h) (s .args .depth) (s .args .n) _) (l .u) more)
 
 same-length : tie.Need-same-length Inv-loop μ-loop
-same-length c = c .before .loop .inv .size ∙ sym (c .before .before .before .before .pre .3)
+same-length c = c .before .loop .inv .size ∙ sym (c .before .before .before .before .before .pre .3)
 
 returns : tie.Need-returns Inv-loop μ-loop
 unfolding tablesIn tablesFrom
@@ -117,9 +107,7 @@ read-rows-spec =
     μ-loop
     mul-wide
     add-wide
-    add-step
-    mul-step
-    add-step-2
+    node-requires
     loop-holds
     mul-a
     add-e

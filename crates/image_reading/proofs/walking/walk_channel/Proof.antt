@@ -32,37 +32,38 @@ returns-3 c =
 add-next : tie.Need-add-next
 add-next c = search needs
 
-add-next-2 : tie.Need-add-next-2
-add-next-2 c = search needs
+message-requires : tie.Need-message-requires
+message-requires c κs = search needs
 
 mul-next : tie.Need-mul-next
 mul-next c =
-    let s = c .before .before .before .before .before in
-    omega (arith, messages-small (c .before .get .result) (s .args .depth) (c .if3 .left) (s .pre .0 .high))
+    let s = c .before .before .before .before .before .before in
+    rw (c .message .ensures) (omega (arith, messages-small (c .before .before .get .result) (s .args .depth) (c .before .if3 .left) (s .pre .0 .high)))
 
-add-next-3 : tie.Need-add-next-3
-add-next-3 c =
-    let s = c .before .before .before .before .before in
-    omega (arith, messages-small (c .before .get .result) (s .args .depth) (c .if3 .left) (s .pre .0 .high))
+add-next-2 : tie.Need-add-next-2
+add-next-2 c =
+    let s = c .before .before .before .before .before .before in
+    rw (c .message .ensures) (omega (arith, messages-small (c .before .before .get .result) (s .args .depth) (c .before .if3 .left) (s .pre .0 .high)))
 
 add-if4 : tie.Need-add-if4
 add-if4 c =
-    let s = c .before .before .before .before .before in
-    omega (arith, messages-small (c .before .get .result) (s .args .depth) (c .if3 .left) (s .pre .0 .high))
+    let s = c .before .before .before .before .before .before in
+    rw (c .message .ensures) (omega (arith, messages-small (c .before .before .get .result) (s .args .depth) (c .before .if3 .left) (s .pre .0 .high)))
 
 returns-4 : tie.Need-returns-4
 returns-4 c =
-    let g = c .before .before in
+    let g = c .before .before .before in
     let s = g .before .before .before .before in
     messages-cut (s .args .depth) (s .args .bytes .now) _ _ _ (g .before .before .if1 .left) (g .before .if2 .left) _ (g .get .ensures)
-    (c .before .if3 .left) (c .if4 .taken)
+    (c .before .before .if3 .left) (rw (c .before .message .ensures) at (c .if4 .taken))
 
 returns-5 : tie.Need-returns-5
 returns-5 c =
-    let g = c .before .before in
+    let g = c .before .before .before in
     let s = g .before .before .before .before in
-    goes-on (s .args .depth) (s .args .bytes .now) _ _ _ (g .before .before .if1 .left) (g .before .if2 .left) _ (g .get .ensures)
-    (c .before .if3 .left) (c .if4 .left)
+    rw (c .before .message .ensures)
+    (goes-on (s .args .depth) (s .args .bytes .now) _ _ _ (g .before .before .if1 .left) (g .before .if2 .left) _ (g .get .ensures)
+    (c .before .before .if3 .left) (rw (c .before .message .ensures) at (c .if4 .left)))
 
 pub walk-channel-spec : {M : Type 1} → statement M
 walk-channel-spec =
@@ -75,9 +76,9 @@ walk-channel-spec =
     cast-c
     returns-3
     add-next
-    add-next-2
+    message-requires
     mul-next
-    add-next-3
+    add-next-2
     add-if4
     returns-4
     returns-5)
