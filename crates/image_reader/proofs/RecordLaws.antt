@@ -3,7 +3,7 @@ use Prim.Native.Nat.{ℕ, suc, _+_, _-_, _*_, _/_, _%_, _^_, _≤_, _<_}
 use native.Mathlib.Omega.{arith}
 use mathlib.Core.Bool.{Bool, true, false, not, _||_}
 use mathlib.Core.List.{List}
-use mathlib.Core.Path.{_≡_, refl, ap, _∙_}
+use mathlib.Core.Path.{_≡_, ap, _∙_}
 use borrow.Author.Tests.{eqb-true, ltb-false, not-false}
 use lib.Dec.{eqb, ltb}
 use lib.ListN.{length, take, drop}
@@ -64,20 +64,16 @@ rest-read n xs at h =
 
 -- ---- 12, else the record
 
-pub width-is : (n : ℕ) → 64 + 96 * n ≡ nodeWidth 16 n
-unfolding nodeWidth heightWidth
-width-is n = refl
-
-module _ (n : ℕ) (xs : List ℕ) (at : ℕ) (row : List ℕ) {r : Bool} (answers : r ≡ standsIn xs at (64 + 96 * n)) where
+module _ (n : ℕ) (xs : List ℕ) (at : ℕ) (row : List ℕ) {r : Bool} (answers : r ≡ standsIn xs at (nodeWidth 16 n)) where
   inside-is : {b : Bool} → not r ≡ b → not (standsIn xs at (nodeWidth 16 n)) ≡ b
-  inside-is e = rw (← width-is n, ← answers) e
+  inside-is e = rw (← answers) e
 
   pub node-short : not r ≡ true → unread (why 12 0 0) row ≡ nodeInside n xs at row
   unfolding nodeInside
   node-short e = rw (inside-is e)
 
   pub node-inside : not r ≡ false → at + nodeWidth 16 n ≤ 8 * length xs
-  node-inside e = rw (← width-is n) (fits xs at (64 + 96 * n) answers e .1)
+  node-inside e = fits xs at (nodeWidth 16 n) answers e .1
 
   pub node-read : {s : Outcome (Answered NodeRecord) (List ℕ)} → not r ≡ false → s ≡ recordIn n (unpacked xs) at → s ≡ nodeInside n xs at row
   unfolding nodeInside

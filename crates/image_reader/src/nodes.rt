@@ -45,11 +45,8 @@ fn inside_at(image: &[u8], at: usize, n: u32, row: &mut [u32]) -> NodeRead
     requires { ⌜ (n ≤ 16) × (length (now row) ≡ n * heightSize) ⌝ }
     ensures { λ r. ⌜ outcome (saidNode r) (now (row .exit)) ≡ nodeInside n (now (image .entry)) at (now (row .entry)) ⌝ }
 {
-    let fits = fields::inside(
-        image,
-        at,
-        image::NODE_HEAD + image::HEIGHT_WIDTH * (n as usize),
-    );
+    let width = image::widths::node(image::DEPTH_WIDTH, n as usize);
+    let fits = fields::inside(image, at, width);
     if !fits {
         return NodeRead::Refused(Refusal::BadEnd);
     }
