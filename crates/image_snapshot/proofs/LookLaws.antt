@@ -14,6 +14,7 @@ use Rattle.bits.proofs.Bytes.{length-unpacked}
 use Rattle.image.specs.Places.{nodePlace, channelsPlace}
 use Rattle.image.specs.Widths.{nodeWidth}
 use Rattle.image.specs.inner.Parts.{Inside}
+use Rattle.image.proofs.Bounds.{node-small}
 use Rattle.image.proofs.PlaceLaws.{node-in, start-in}
 use Rattle.image_reader.specs.Fields.{standsIn}
 use Rattle.image_reader.specs.Record.{recordIn, nodeInside, nodeOn}
@@ -38,11 +39,10 @@ use Rattle.tables.proofs.RowsLaws.{product-le}
 use Rattle.image_snapshot.specs.ReadNode.{nodePlaced, nodeExamined, nodeSized, nodeHeaded, readNodeOn}
 
 -- the records before one of 16 nodes take few bits
-pub before-small : (n k : ℕ) → n ≤ 16 → 1 ≤ k → k ≤ n → (k - 1) * (64 + 96 * n) ≤ 24000
+pub before-small : (n k : ℕ) → n ≤ 16 → 1 ≤ k → k ≤ n → (k - 1) * nodeWidth 16 n ≤ 27840
 before-small n k few low high =
-    let w : 64 + 96 * n ≤ 1600 = omega arith in
     let i : k - 1 ≤ 15 = omega arith in
-    product-le (k - 1) (64 + 96 * n) i w
+    product-le (k - 1) (nodeWidth 16 n) i (node-small 16 n (omega arith) few)
 
 pub node-is : (n k : ℕ) → (ltb k 1 || ltb n k) ≡ false → Node n k
 node-is n k e = go (choice (ltb k 1)) (choice (ltb n k))

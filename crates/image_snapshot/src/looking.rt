@@ -38,7 +38,7 @@ fn start(fields: Fields, k: u32) -> usize
 {
     let n = fields.n as usize;
     let before = (k - 1) as usize;
-    fields.length as usize + before * (image::NODE_HEAD + image::HEIGHT_WIDTH * n)
+    fields.length as usize + before * image::widths::node(image::DEPTH_WIDTH, n)
 }
 
 // 3, 13, or the record where a reader stands at that place; the reader refuses none that is inside.

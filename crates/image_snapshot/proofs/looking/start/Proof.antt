@@ -2,7 +2,6 @@
 use native.Mathlib.Omega.{arith}
 use mathlib.Core.Path.{refl}
 use Rattle.image.specs.Places.{nodePlace}
-use Rattle.image.specs.Widths.{heightWidth, nodeWidth}
 use Rattle.image_snapshot.proofs.LookLaws.{before-small}
 use borrow.Author.Needs.{needs}
 use Rattle.image_snapshot.proofs.looking.start.Statement.{statement}
@@ -20,21 +19,20 @@ cast-before c = search needs
 cast-result : tie.Need-cast-result
 cast-result c = search needs
 
+node-requires : tie.Need-node-requires
+node-requires c κs = search needs
+
 mul-result : tie.Need-mul-result
-mul-result c = search needs
+mul-result c = let s = c .before .before .before in rw (c .node .ensures) (omega (arith, before-small _ _ (s .pre .1) (s .pre .2 .low) (s .pre .2 .high)))
 
 add-result : tie.Need-add-result
-add-result c = search needs
-
-mul-result-2 : tie.Need-mul-result-2
-mul-result-2 c = let s = c .before .before in omega (arith, before-small _ _ (s .pre .1) (s .pre .2 .low) (s .pre .2 .high))
-
-add-result-2 : tie.Need-add-result-2
-add-result-2 c = let s = c .before .before in omega (arith, s .pre .0, before-small _ _ (s .pre .1) (s .pre .2 .low) (s .pre .2 .high))
+add-result c = let s = c .before .before .before in rw (c .node .ensures) (omega (arith, s .pre .0, before-small _ _ (s .pre .1) (s .pre .2 .low) (s .pre .2 .high)))
 
 returns : tie.Need-returns
-unfolding nodePlace nodeWidth heightWidth
-returns c = let s = c .before .before in (refl, omega (arith, s .pre .0, before-small _ _ (s .pre .1) (s .pre .2 .low) (s .pre .2 .high)))
+unfolding nodePlace
+returns c =
+    let s = c .before .before .before in
+    rw (c .node .ensures) (refl, omega (arith, s .pre .0, before-small _ _ (s .pre .1) (s .pre .2 .low) (s .pre .2 .high)))
 
 pub start-spec : {M : Type 1} → statement M
 start-spec =
@@ -44,8 +42,7 @@ start-spec =
     sub-before
     cast-before
     cast-result
+    node-requires
     mul-result
     add-result
-    mul-result-2
-    add-result-2
     returns)
