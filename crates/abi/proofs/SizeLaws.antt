@@ -1,5 +1,5 @@
 -- The numbers of nodes, 1 to 16, and the products that follow from them.
-use Prim.Native.Nat.{ℕ, _+_, _-_, _*_, _≤_}
+use Prim.Native.Nat.{ℕ, _-_, _*_, _≤_}
 use native.Mathlib.Nat.{mul-le-mul}
 use native.Mathlib.Omega.{arith}
 use mathlib.Core.Bool.{Bool, true}
@@ -16,11 +16,6 @@ size-of n e t = is-node 16 n (sym e ∙ t)
 module _ (n : ℕ) (size : Node 16 n) where
   pub square-le : n * n ≤ 256
   square-le = mul-le-mul (size .high) (size .high)
-
-  pub records-le : n * (64 + 96 * n) ≤ 25600
-  records-le =
-      let a : 64 + 96 * n ≤ 1600 = omega (arith, size .high) in
-      mul-le-mul (size .high) a
 
   pub pairs-le : n * (n - 1) ≤ 240
   pairs-le =

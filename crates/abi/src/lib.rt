@@ -109,8 +109,9 @@ pub extern "C" fn election_image_len(n: u32) -> usize
 {
     if is_size(n) {
         let k = n as usize;
-        let nodes = k * (image::NODE_HEAD + image::HEIGHT_WIDTH * k);
-        let channels = k * (k - 1) * (4 + tables::CAPACITY * image::MESSAGE_WIDTH);
+        let message = image::widths::message(image::DEPTH_WIDTH);
+        let nodes = k * image::widths::node(image::DEPTH_WIDTH, k);
+        let channels = k * (k - 1) * (4 + tables::CAPACITY * message);
         return (image::HEADER_END + nodes + channels) / 8;
     }
     0
