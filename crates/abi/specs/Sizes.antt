@@ -5,7 +5,8 @@ use mathlib.Core.Bool.{Bool, cond, _&&_}
 use lib.Dec.{leb}
 use Rattle.image.specs.Widths.{headerLength, depthWidth, messageWidth, nodeWidth}
 use Rattle.protocol.specs.Network.{capacity}
-use Rattle.tables.specs.Tables.{heightSize, width, cellWidth}
+use Rattle.height.specs.Words.{heightSize}
+use Rattle.tables.specs.Tables.{width, cellWidth}
 
 abbrev pub isSize : ℕ → Bool
 isSize n = leb 1 n && leb n 16

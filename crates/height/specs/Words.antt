@@ -16,7 +16,10 @@ unfoldable pub deltaWord : ℤ → ℕ
 deltaWord (pos n) = n
 deltaWord (negsuc n) = 4294967295 - n
 
--- a height's words
+-- a height's words, and how many
+abbrev pub heightSize : ℕ
+heightSize = 7
+
 unfoldable pub heightWords : Height → List ℕ
 heightWords h =
     h .level .tau .0 ∷ h .level .oid ∷ h .level .r ∷ deltaWord (h .delta)

@@ -4,13 +4,16 @@ ghost use mathlib.Core.Path.{_≡_};
 ghost use Prim.Native.Nat.{_+_, _≤_};
 ghost use lib.ListN.{length};
 ghost use lib.IntN.{negℤ, pos, natAbs};
-ghost use Rattle.height.specs.Words.{deltaOf, deltaWord, heightAt};
+ghost use Rattle.height.specs.Words.{heightSize, deltaOf, deltaWord, heightAt};
 ghost use Rattle.height.specs.inner.Stored.{storedAt, Negated};
 use super::Height;
 use super::LeaderPair;
 use super::NegatedTime;
 use super::ReferenceLevel;
 use super::Time;
+
+// Words of a height.
+pub const HEIGHT_SIZE: usize = 7;
 
 // A word as two's complement.
 pub fn delta_of(word: u32) -> i32
@@ -49,7 +52,7 @@ pub fn nlts_word(nlts: NegatedTime) -> u32
 
 // The height whose words stand from `at`.
 pub fn load_height(words: &[u32], at: usize) -> Height
-    requires { ⌜ at + 7 ≤ length (now words) ⌝ }
+    requires { ⌜ at + heightSize ≤ length (now words) ⌝ }
     ensures { λ r. ⌜ (r ≡ heightAt (now (words .entry)) at) × Negated (r .pair .nlts .0) ⌝ }
 {
     let level = ReferenceLevel {
@@ -73,7 +76,7 @@ pub fn load_height(words: &[u32], at: usize) -> Height
 
 // The height's words, from `at`.
 pub fn store_height(words: &mut [u32], at: usize, h: Height)
-    requires { ⌜ (at + 7 ≤ length (now words)) × Negated (h .pair .nlts .0) ⌝ }
+    requires { ⌜ (at + heightSize ≤ length (now words)) × Negated (h .pair .nlts .0) ⌝ }
     ensures { λ _. ⌜ now (words .exit) ≡ storedAt (now (words .entry)) at h ⌝ }
 {
     words[at] = h.level.tau.0;

@@ -21,9 +21,9 @@ use Rattle.tables.proofs.RecordsLaws.{Eights, Shaped, length-cell}
 use Rattle.tables.proofs.RowsLaws.{row-fits, part-length}
 use Rattle.tables.proofs.RowsMore.{rows-more, rows-same, length-rows, row-first, row-next, rows-at}
 use Rattle.image.specs.Image.{nodeBits, messageBits}
-use Rattle.image.specs.Places.{fieldIn, nodePlace, heightFrom, messagesOf, channelFrom, channelPlace, recordsIn, recordsFrom, heightsFrom}
+use Rattle.image.specs.Places.{fieldIn, nodePlace, heightFrom, messagesOf, channelFrom, channelPlace, recordsIn, heightsFrom}
+use Rattle.image.specs.inner.Parts.{recordsFrom, recordsBits, rowBits, cellBits, rowFrom, cellFrom}
 use Rattle.image.specs.Widths.{recordBits, recordOf, widthsOf, heightWidth, messageWidth, nodeWidth}
-use Rattle.image.specs.inner.Parts.{recordsBits, rowBits, cellBits, rowFrom, cellFrom}
 use Rattle.image.proofs.RecordLaws.{total-height, total-message, length-record, below-record, length-record-bits}
 use Rattle.image.proofs.RowsMore.{below-rows}
 
@@ -131,11 +131,11 @@ records-from-more d m w n l at =
 
 -- the row and the cell at their places are those of the records read
 pub row-read : (h d n : ℕ) (l : List ℕ) (u : ℕ) → rowFrom d n l (nodePlace h d n u) ≡ rowWords n (recordsIn h d n l) u
-unfolding rowFrom rowWords recordsIn heightsFrom heightFrom recordsFrom
+unfolding rowFrom rowWords recordsIn heightsFrom heightFrom
 row-read h d n l u = refl
 
 pub length-row-from : (d n : ℕ) (l : List ℕ) (at : ℕ) → length (rowFrom d n l at) ≡ width n
-unfolding rowFrom heightsFrom
+unfolding rowFrom heightsFrom heightFrom recordsFrom
 length-row-from d n l at = omega (arith, length-records-from d 7 (heightWidth d) n l (at + 64) (omega arith))
 
 -- each message has eight words

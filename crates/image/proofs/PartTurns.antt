@@ -15,9 +15,9 @@ use Rattle.bits.proofs.Numbers.{Below}
 use Rattle.tables.specs.Records.{slotWords}
 use Rattle.tables.specs.Rows.{rows, rowAt}
 use Rattle.tables.proofs.RowsLaws.{row-fits, product-le, part-row}
-use Rattle.image.specs.Places.{messagesOf, recordsFrom, heightsFrom}
+use Rattle.image.specs.Places.{heightFrom, messagesOf, heightsFrom}
+use Rattle.image.specs.inner.Parts.{recordsFrom, Inside, Depth, RecordRun, recordsBits}
 use Rattle.image.specs.Widths.{widthsOf, recordBits, recordOf, heightWidth, messageWidth, nodeWidth}
-use Rattle.image.specs.inner.Parts.{Inside, Depth, RecordRun, recordsBits}
 use Rattle.image.proofs.PartLaws.{length-records-from, records-from-more, slots-run}
 use Rattle.image.proofs.PartLaws.{length-row-at, below-records-bits, length-records-bits, records-bits-more}
 use Rattle.image.proofs.RecordLaws.{total-height, total-message, room, length-record-bits}
@@ -204,7 +204,7 @@ module _ {d m w n : ℕ} {xs start : List ℕ} {at : ℕ} (r : RecordRun d m w n
 
 pub heights-done : (d n : ℕ) (l : List ℕ) (at : ℕ) (start : List ℕ) {ws : List ℕ} → length start ≡ n * 7
     → ws ≡ recordsFrom d 7 (heightWidth d) n l (at + 64) ++ drop (n * 7) start → ws ≡ heightsFrom d n l at
-unfolding heightsFrom
+unfolding heightsFrom heightFrom recordsFrom
 heights-done d n l at start z e =
     let none : drop (n * 7) start ≡ [] = drop-of-length-le start {i = n * 7} (omega arith) in
     e ∙ ap (λ (x : List ℕ). recordsFrom d 7 (heightWidth d) n l (at + 64) ++ x) none

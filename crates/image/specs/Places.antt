@@ -8,7 +8,8 @@ use lib.ListN.{take, drop}
 use Rattle.bits.specs.Bits.{number}
 use Rattle.tables.specs.Records.{Records, tablesFrom}
 use Rattle.tables.specs.Rows.{rows}
-use Rattle.tables.specs.Tables.{Tables, heightSize, messageSize}
+use Rattle.height.specs.Words.{heightSize}
+use Rattle.tables.specs.Tables.{Tables, messageSize}
 use Rattle.image.specs.Widths.{recordOf, nodeHead, heightWidth, messageWidth, nodeWidth}
 
 -- the number of w bits at a place
@@ -23,13 +24,9 @@ nodePlace h d n u = h + (u - 1) * nodeWidth d n
 unfoldable pub heightFrom : ℕ → List ℕ → ℕ → ℕ → List ℕ
 heightFrom d l at v = recordOf d heightSize (drop (at + nodeHead + (v - 1) * heightWidth d) l)
 
--- c records of k words, w bits apart from a place on
-unfoldable pub recordsFrom : ℕ → ℕ → ℕ → ℕ → List ℕ → ℕ → List ℕ
-recordsFrom d k w c l at = rows c (λ v. recordOf d k (drop (at + (v - 1) * w) l))
-
 -- the n heights of a node's record at a place
 unfoldable pub heightsFrom : ℕ → ℕ → List ℕ → ℕ → List ℕ
-heightsFrom d n l at = recordsFrom d heightSize (heightWidth d) n l (at + nodeHead)
+heightsFrom d n l at = rows n (heightFrom d l at)
 
 -- c messages
 unfoldable pub messagesOf : ℕ → ℕ → List ℕ → List (List ℕ)

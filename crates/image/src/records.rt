@@ -5,10 +5,10 @@ ghost use Prim.Native.Nat.{_*_, _^_, _≤_, _<_};
 ghost use lib.ListN.{length, take, drop};
 ghost use Rattle.bits.specs.Bits.{unpacked};
 ghost use Rattle.bits.specs.inner.Written.{written, RoomFor};
-ghost use Rattle.tables.specs.Tables.{heightSize, messageSize};
-ghost use Rattle.image.specs.Places.{recordsFrom};
+ghost use Rattle.height.specs.Words.{heightSize};
+ghost use Rattle.tables.specs.Tables.{messageSize};
+ghost use Rattle.image.specs.inner.Parts.{recordsFrom, RecordRun, recordsBits};
 ghost use Rattle.image.specs.Widths.{widthsOf, extendedOf, recordBits, recordOf};
-ghost use Rattle.image.specs.inner.Parts.{RecordRun, recordsBits};
 use tables::HEIGHT_SIZE;
 use tables::MESSAGE_SIZE;
 

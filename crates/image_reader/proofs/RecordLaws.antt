@@ -9,7 +9,7 @@ use lib.Dec.{eqb, ltb}
 use lib.ListN.{length, take, drop}
 use Rattle.basics.proofs.Tests.{neither-left, neither-right}
 use Rattle.bits.specs.Bits.{number, unpacked}
-use Rattle.image.specs.Places.{fieldIn, recordsFrom, heightsFrom}
+use Rattle.image.specs.Places.{fieldIn, heightFrom, heightsFrom}
 use Rattle.image.specs.Widths.{recordOf, heightWidth, nodeWidth}
 use Rattle.image.specs.inner.Parts.{Inside}
 use Rattle.image.proofs.PartCalls.{rest-length}
@@ -35,7 +35,7 @@ module _ (xs : List ℕ) (k p at : ℕ) (e : 8 * k + p ≡ at) where
   field-from a w = ap (λ (l : List ℕ). number (take w l)) (from-byte xs k (p + a) (at + a) (omega (arith, e)))
 
   heights-from : (n : ℕ) → heightsFrom 16 n (unpacked (drop k xs)) p ≡ heightsFrom 16 n (unpacked xs) at
-  unfolding heightsFrom recordsFrom
+  unfolding heightsFrom heightFrom
   heights-from n =
       rows-same n (λ v. recordOf 16 7 (drop (p + 64 + (v - 1) * heightWidth 16) (unpacked (drop k xs))))
       (λ v. recordOf 16 7 (drop (at + 64 + (v - 1) * heightWidth 16) (unpacked xs)))

@@ -11,7 +11,7 @@ use Rattle.image.specs.Widths.{depthWidth, nodeWidth}
 use Rattle.refusal.specs.Outcome.{Answered, Outcome, accepted, outcome, refusedWith}
 use Rattle.refusal.specs.Refusal.{why, whyOf}
 use Rattle.refusal.specs.declared.Why.{Why}
-use Rattle.tables.specs.Tables.{heightSize}
+use Rattle.height.specs.Words.{heightSize}
 use Rattle.image_reader.specs.Fields.{standsIn}
 use Rattle.image_reader.specs.declared.NodeRead.the-variants.{Found, Refused}
 use Rattle.image_reader.specs.declared.NodeRead.{NodeRead}

@@ -6,7 +6,7 @@ ghost use Rattle.bits.specs.Bits.{unpacked};
 ghost use Rattle.image.specs.Widths.{depthWidth, nodeWidth};
 ghost use Rattle.image.specs.inner.Parts.{Inside};
 ghost use Rattle.refusal.specs.Outcome.{outcome};
-ghost use Rattle.tables.specs.Tables.{heightSize};
+ghost use Rattle.height.specs.Words.{heightSize};
 ghost use Rattle.image_reader.specs.Record.{saidNode, recordIn, nodeInside, nodeOn};
 ghost use Rattle.image_reader.specs.declared.NodeRead.the-variants.{Found};
 use super::NodeRead;

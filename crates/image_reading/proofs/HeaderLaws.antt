@@ -10,7 +10,8 @@ use lib.ListN.{length}
 use Rattle.bits.specs.Bits.{field}
 use Rattle.refusal.specs.Outcome.{Answered, accepted}
 use Rattle.refusal.proofs.RefusalLaws.{reasonFrom, reason-back, never-0}
-use Rattle.image_reading.specs.Header.{badHeader, saidHeader, headerHolds, headerOf}
+use Rattle.image_reading.specs.Header.{badHeader, headerHolds, headerOf}
+use Rattle.image_reading.specs.inner.Answers.{saidHeader}
 use Rattle.image_reading.specs.declared.Fields.{Fields}
 use Rattle.image_reading.specs.declared.Header.the-variants.{Good, Refused}
 use Rattle.image_reading.specs.declared.Header.{Header}

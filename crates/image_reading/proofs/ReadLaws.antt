@@ -11,9 +11,8 @@ use lib.ListN.{length, replicate}
 use Rattle.bits.specs.Bits.{unpacked}
 use Rattle.bits.proofs.Bytes.{length-unpacked}
 use Rattle.image.specs.Places.{fieldIn, nodePlace, walked, channelNext, channelsNext, channelsPlace, channelsFromPlace, channelPlace, recordsIn}
-use Rattle.image.specs.inner.Parts.{imageEnd}
+use Rattle.image.specs.inner.Parts.{imageEnd, Inside, rowFrom, cellFrom}
 use Rattle.image.specs.Widths.{messageWidth, nodeWidth}
-use Rattle.image.specs.inner.Parts.{Inside, rowFrom, cellFrom}
 use Rattle.image.proofs.ChannelLaws.{next-same, next-other}
 use Rattle.image.proofs.PartLaws.{row-read, channel-eights}
 use Rattle.image.proofs.PlaceLaws.{channel-on, channels-on, start-in, walked-le}

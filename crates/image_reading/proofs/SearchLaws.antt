@@ -17,11 +17,10 @@ use Rattle.refusal.specs.declared.Refusal.{Refusal}
 use Rattle.refusal.specs.declared.Why.{Why}
 use Rattle.refusal.proofs.RefusalLaws.{never-0}
 use Rattle.tables.proofs.RecordsLaws.{row-from, cell-from}
-use Rattle.image_reading.specs.inner.Search.{saidWalk}
+use Rattle.image_reading.specs.inner.Search.{saidWalk, rowHolds, Searched}
 use Rattle.image_reading.specs.declared.Walk.the-variants.{At, Refused}
 use Rattle.image_reading.specs.declared.Walk.{Walk}
 use Rattle.image_reading.specs.inner.Cells.{cellIn, cellBehind}
-use Rattle.image_reading.specs.inner.Search.{rowHolds, Searched}
 use Rattle.image_reading.proofs.ReadLaws.{ChannelAt, ChannelsAt, row-got, cell-behind, cell-got}
 
 -- ---- one row

@@ -8,18 +8,11 @@ use lib.ListN.{length}
 use Rattle.bits.specs.Bits.{field}
 use Rattle.image.specs.Widths.{headerLength}
 use Rattle.refusal.specs.Outcome.{Answered, accepted, refusedWith}
-use Rattle.refusal.specs.Refusal.{why, whyOf}
+use Rattle.refusal.specs.Refusal.{why}
 use Rattle.image_reading.specs.declared.Fields.{Fields}
-use Rattle.image_reading.specs.declared.Header.the-variants.{Good, Refused}
-use Rattle.image_reading.specs.declared.Header.{Header}
 
 abbrev pub noFields : Fields
 noFields = record { version = 0; length = 0; n = 0 }
-
--- 0 with version, header length and n; or 10 or 11, and no field
-abbrev pub saidHeader : Header → Answered Fields
-saidHeader (Good f) = accepted f
-saidHeader (Refused r) = refusedWith noFields (whyOf r)
 
 -- what the bytes of a good header say
 abbrev pub fieldsOf : List ℕ → Fields

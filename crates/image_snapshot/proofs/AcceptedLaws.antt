@@ -23,6 +23,7 @@ use Rattle.refusal.specs.Outcome.{accepted}
 use Rattle.refusal.specs.Refusal.{why, whyOf}
 use Rattle.refusal.proofs.RefusalLaws.{never-0}
 use Rattle.tables.specs.Tables.{Tables, sized}
+use Rattle.image.specs.Widths.{headerLength, depthWidth}
 use Rattle.image_snapshot.specs.Restore.{restoreExamined, restoreOf, restoreHeaded, restoreOn}
 
 -- ---- the header
@@ -65,21 +66,21 @@ header-good xs zero = go (choice (ltb (length xs) 4)) (choice (headerHolds 1 32 
 -- ---- the checks behind it
 
 pub record ExaminedGood (n : ℕ) (l : List ℕ) : Type 0 where
-  pub walks : walk 32 16 n l ≡ At (imageEnd 32 16 n l)
-  pub walkable : Walkable 32 16 n l
-  pub no-more : length l < imageEnd 32 16 n l + 8
-  pub pad : number (drop (imageEnd 32 16 n l) l) ≡ 0
-  pub sound : firstFault n (tablesIn 32 16 n l) .number ≡ 0
+  pub walks : walk headerLength depthWidth n l ≡ At (imageEnd headerLength depthWidth n l)
+  pub walkable : Walkable headerLength depthWidth n l
+  pub no-more : length l < imageEnd headerLength depthWidth n l + 8
+  pub pad : number (drop (imageEnd headerLength depthWidth n l) l) ≡ 0
+  pub sound : firstFault n (tablesIn headerLength depthWidth n l) .number ≡ 0
 
-pub examined-good : (n : ℕ) (l : List ℕ) → n ≤ 16 → examined 32 16 n l .number ≡ 0 → ExaminedGood n l
+pub examined-good : (n : ℕ) (l : List ℕ) → n ≤ 16 → examined headerLength depthWidth n l .number ≡ 0 → ExaminedGood n l
 unfolding examined afterWalk endsAt
-examined-good n l few zero = go (walk 32 16 n l) refl zero
+examined-good n l few zero = go (walk headerLength depthWidth n l) refl zero
   where
-    good : (q : ℕ) → walk 32 16 n l ≡ At q → Choice (endsAt l q) → cond (endsAt l q) (firstFault n (tablesIn 32 16 n l)) (why 12 0 0) .number ≡ 0
+    good : (q : ℕ) → walk headerLength depthWidth n l ≡ At q → Choice (endsAt l q) → cond (endsAt l q) (firstFault n (tablesIn headerLength depthWidth n l)) (why 12 0 0) .number ≡ 0
         → ExaminedGood n l
     good q w (no! e) z = let y : _≡_ {A = ℕ} 12 0 = rw e at z in absurd (omega arith)
     good q w (yes! e) z =
-        let both = walk-accepted 32 16 n l q (omega arith) (omega arith) few w in
+        let both = walk-accepted headerLength depthWidth n l q (omega arith) (omega arith) few w in
         let near = ltb-true (length l) (q + 8) (and-left (ltb (length l) (q + 8)) (eqb (number (drop q l)) 0) e) in
         let pad = eqb-true (number (drop q l)) 0 (and-right (ltb (length l) (q + 8)) (eqb (number (drop q l)) 0) e) in
         record {
@@ -90,7 +91,7 @@ examined-good n l few zero = go (walk 32 16 n l) refl zero
           sound = rw e at z;
         }
 
-    go : (w : Walk) → walk 32 16 n l ≡ w → afterWalk 32 16 n l w .number ≡ 0 → ExaminedGood n l
+    go : (w : Walk) → walk headerLength depthWidth n l ≡ w → afterWalk headerLength depthWidth n l w .number ≡ 0 → ExaminedGood n l
     go (At q) e z = good q e (choice (endsAt l q)) z
     go (Refused r) e z = clash (eq-eqb (whyOf r .number) 0 z) (never-0 r)
 
@@ -100,22 +101,22 @@ pub record RestoreGood (xs : List ℕ) (t : Tables) : Type 0 where
   pub header : HeaderGood xs
   pub fit : sized (field xs 16 5) t ≡ true
   pub contents : ExaminedGood (field xs 16 5) (unpacked xs)
-  pub after-is : restoreOn xs t .after ≡ tablesIn 32 16 (field xs 16 5) (unpacked xs)
+  pub after-is : restoreOn xs t .after ≡ tablesIn headerLength depthWidth (field xs 16 5) (unpacked xs)
 
 pub restore-good : (xs : List ℕ) (t : Tables) → restoreOn xs t .said .number ≡ 0 → RestoreGood xs t
 unfolding restoreOn restoreHeaded restoreOf restoreExamined
 restore-good xs t zero = go (choice (eqb (headerOf xs .why .number) 0)) zero
   where
-    good : HeaderGood xs → Choice (sized (field xs 16 5) t) → Choice (eqb (examined 32 16 (field xs 16 5) (unpacked xs) .number) 0)
+    good : HeaderGood xs → Choice (sized (field xs 16 5) t) → Choice (eqb (examined headerLength depthWidth (field xs 16 5) (unpacked xs) .number) 0)
         → restoreOf (field xs 16 5) (unpacked xs) t .said .number ≡ 0 → RestoreGood xs t
     good h (no! e) b z = let y : _≡_ {A = ℕ} 1 0 = rw e at z in absurd (omega arith)
     good h (yes! e) (no! f) z =
-        let y : examined 32 16 (field xs 16 5) (unpacked xs) .number ≡ 0 = rw e at z in
-        absurd (eqb-false (examined 32 16 (field xs 16 5) (unpacked xs) .number) 0 f y)
+        let y : examined headerLength depthWidth (field xs 16 5) (unpacked xs) .number ≡ 0 = rw e at z in
+        absurd (eqb-false (examined headerLength depthWidth (field xs 16 5) (unpacked xs) .number) 0 f y)
     good h (yes! e) (yes! f) z = record {
       header = h;
       fit = e;
-      contents = examined-good (field xs 16 5) (unpacked xs) (h .few) (eqb-true (examined 32 16 (field xs 16 5) (unpacked xs) .number) 0 f);
+      contents = examined-good (field xs 16 5) (unpacked xs) (h .few) (eqb-true (examined headerLength depthWidth (field xs 16 5) (unpacked xs) .number) 0 f);
       after-is = rw (h .is, e, f);
     }
 
@@ -123,4 +124,4 @@ restore-good xs t zero = go (choice (eqb (headerOf xs .why .number) 0)) zero
     go (no! e) z = absurd (eqb-false (headerOf xs .why .number) 0 e (rw e at z))
     go (yes! e) z =
         let h = header-good xs (eqb-true (headerOf xs .why .number) 0 e) in
-        good h (choice (sized (field xs 16 5) t)) (choice (eqb (examined 32 16 (field xs 16 5) (unpacked xs) .number) 0)) (rw (h .is) at z)
+        good h (choice (sized (field xs 16 5) t)) (choice (eqb (examined headerLength depthWidth (field xs 16 5) (unpacked xs) .number) 0)) (rw (h .is) at z)

@@ -34,6 +34,7 @@ use Rattle.tables.specs.Load.{tablesOf}
 use Rattle.tables.specs.Records.{recordsOf}
 use Rattle.tables.specs.Tables.{sized}
 use Rattle.tables.proofs.Back.{storable}
+use Rattle.image.specs.Widths.{headerLength, depthWidth}
 use Rattle.tables.proofs.RecordsLaws.{Agree, agree-tables}
 
 module _ (n : ℕ) (low : 1 ≤ n) (few : n ≤ 16) (p : Network) (holds : sound n p ≡ true) (inside : restrict n p ≡ p) where
@@ -45,25 +46,25 @@ module _ (n : ℕ) (low : 1 ≤ n) (few : n ≤ 16) (p : Network) (holds : sound
 
   long : 4 ≤ length (image n p)
   unfolding image
-  long = omega (arith, length-image 1 32 16 n (recordsOf n p), length-whole 1 32 16 n (recordsOf n p) (omega arith))
+  long = omega (arith, length-image 1 headerLength depthWidth n (recordsOf n p), length-whole 1 headerLength depthWidth n (recordsOf n p) (omega arith))
 
   pub image-fields : fieldsOf (image n p) ≡ record { version = 1; length = 32; n = n }
   unfolding image field fieldIn
   image-fields =
       rw (
-        version-read 1 32 16 n (recordsOf n p) (omega arith),
-        header-read 1 32 16 n (recordsOf n p) (omega arith),
-        count-read 1 32 16 n (recordsOf n p) (omega arith),
+        version-read 1 headerLength depthWidth n (recordsOf n p) (omega arith),
+        header-read 1 headerLength depthWidth n (recordsOf n p) (omega arith),
+        count-read 1 headerLength depthWidth n (recordsOf n p) (omega arith),
       )
 
   header-holds : headerHolds 1 32 (image n p) ≡ true
   unfolding headerHolds image field fieldIn
   header-holds =
       rw (
-        version-read 1 32 16 n (recordsOf n p) (omega arith),
-        header-read 1 32 16 n (recordsOf n p) (omega arith),
-        count-read 1 32 16 n (recordsOf n p) (omega arith),
-        spare-read 1 32 16 n (recordsOf n p),
+        version-read 1 headerLength depthWidth n (recordsOf n p) (omega arith),
+        header-read 1 headerLength depthWidth n (recordsOf n p) (omega arith),
+        count-read 1 headerLength depthWidth n (recordsOf n p) (omega arith),
+        spare-read 1 headerLength depthWidth n (recordsOf n p),
         le-leb 1 n low,
         le-leb n 16 few,
       )
@@ -72,22 +73,22 @@ module _ (n : ℕ) (low : 1 ≤ n) (few : n ≤ 16) (p : Network) (holds : sound
   unfolding headerOf
   image-header = rw (le-ltb (length (image n p)) 4 long, header-holds, image-fields)
 
-  agree : Agree n (recordsIn 32 16 n (unpacked (image n p))) (recordsOf n p)
+  agree : Agree n (recordsIn headerLength depthWidth n (unpacked (image n p))) (recordsOf n p)
   unfolding image
-  agree = image-read 1 32 16 n (omega arith) (omega arith) (omega arith) (recordsOf n p) fit
+  agree = image-read 1 headerLength depthWidth n (omega arith) (omega arith) (omega arith) (recordsOf n p) fit
 
   -- the tables that its records make are the network's
-  pub image-tables : tablesIn 32 16 n (unpacked (image n p)) ≡ tablesOf n p
+  pub image-tables : tablesIn headerLength depthWidth n (unpacked (image n p)) ≡ tablesOf n p
   unfolding tablesIn tablesOf
-  image-tables = agree-tables n (recordsIn 32 16 n (unpacked (image n p))) (recordsOf n p) agree unused
+  image-tables = agree-tables n (recordsIn headerLength depthWidth n (unpacked (image n p))) (recordsOf n p) agree unused
     where
-      unused : (i : ℕ) → i < n → recordsIn 32 16 n (unpacked (image n p)) .channel (suc i) (suc i) ≡ recordsOf n p .channel (suc i) (suc i)
+      unused : (i : ℕ) → i < n → recordsIn headerLength depthWidth n (unpacked (image n p)) .channel (suc i) (suc i) ≡ recordsOf n p .channel (suc i) (suc i)
       unused i l = unfold recordsIn recordsOf in rw (eq-eqb (suc i) (suc i) refl, diagonal n p fits (suc i))
 
-  few-at : (i j : ℕ) → i < n → j < n → (suc i ≡ suc j → ⊥) → fieldIn (unpacked (image n p)) (channelPlace 32 16 n (unpacked (image n p)) (suc i) (suc j)) 4 ≤ 8
+  few-at : (i j : ℕ) → i < n → j < n → (suc i ≡ suc j → ⊥) → fieldIn (unpacked (image n p)) (channelPlace headerLength depthWidth n (unpacked (image n p)) (suc i) (suc j)) 4 ≤ 8
   unfolding recordsIn recordsOf channelFrom
   few-at i j l m d =
-      let q = channelPlace 32 16 n (unpacked (image n p)) (suc i) (suc j) in
+      let q = channelPlace headerLength depthWidth n (unpacked (image n p)) (suc i) (suc j) in
       let same = rw (ne-eqb (suc i) (suc j) d) at (ap length (agree .channels i j l m d)) in
       omega (
         arith,
@@ -97,7 +98,7 @@ module _ (n : ℕ) (low : 1 ≤ n) (few : n ≤ 16) (p : Network) (holds : sound
         length-messages-of 16 (fieldIn (unpacked (image n p)) q 4) (drop (q + 4) (unpacked (image n p))),
       )
 
-  few-in : (u v : ℕ) → Two n u v → fieldIn (unpacked (image n p)) (channelPlace 32 16 n (unpacked (image n p)) u v) 4 ≤ 8
+  few-in : (u v : ℕ) → Two n u v → fieldIn (unpacked (image n p)) (channelPlace headerLength depthWidth n (unpacked (image n p)) u v) 4 ≤ 8
   few-in u v t =
       let a : suc (u - 1) ≡ u = omega (arith, t .one .low) in
       let b : suc (v - 1) ≡ v = omega (arith, t .other .low) in
@@ -105,25 +106,25 @@ module _ (n : ℕ) (low : 1 ≤ n) (few : n ≤ 16) (p : Network) (holds : sound
       (few-at (u - 1) (v - 1) (omega (arith, t .one .low, t .one .high)) (omega (arith, t .other .low, t .other .high))
       (λ e. t .differ (omega (arith, e, t .one .low, t .other .low))))
 
-  end-in : imageEnd 32 16 n (unpacked (image n p)) ≤ length (unpacked (image n p))
+  end-in : imageEnd headerLength depthWidth n (unpacked (image n p)) ≤ length (unpacked (image n p))
   unfolding image
-  end-in = rw (length-unpacked (imageOf 1 32 16 n (recordsOf n p)))
-      (image-inside 1 32 16 n (omega arith) (omega arith) (omega arith) (recordsOf n p) fit)
+  end-in = rw (length-unpacked (imageOf 1 headerLength depthWidth n (recordsOf n p)))
+      (image-inside 1 headerLength depthWidth n (omega arith) (omega arith) (omega arith) (recordsOf n p) fit)
 
-  pub image-walk : walk 32 16 n (unpacked (image n p)) ≡ At (imageEnd 32 16 n (unpacked (image n p)))
-  image-walk = walk-goes 32 16 n (unpacked (image n p)) end-in few-in
+  pub image-walk : walk headerLength depthWidth n (unpacked (image n p)) ≡ At (imageEnd headerLength depthWidth n (unpacked (image n p)))
+  image-walk = walk-goes headerLength depthWidth n (unpacked (image n p)) end-in few-in
 
-  pub image-ends : endsAt (unpacked (image n p)) (imageEnd 32 16 n (unpacked (image n p))) ≡ true
+  pub image-ends : endsAt (unpacked (image n p)) (imageEnd headerLength depthWidth n (unpacked (image n p))) ≡ true
   unfolding endsAt image
   image-ends =
-      let l = unpacked (imageOf 1 32 16 n (recordsOf n p)) in
-      let e = imageEnd 32 16 n l in
-      let near = image-no-more 1 32 16 n (omega arith) (omega arith) (omega arith) (recordsOf n p) fit in
-      let rest = image-end 1 32 16 n (omega arith) (omega arith) (omega arith) (recordsOf n p) fit in
-      rw (lt-ltb (length l) (e + 8) (rw (length-unpacked (imageOf 1 32 16 n (recordsOf n p))) near), rest, number-zeros _)
+      let l = unpacked (imageOf 1 headerLength depthWidth n (recordsOf n p)) in
+      let e = imageEnd headerLength depthWidth n l in
+      let near = image-no-more 1 headerLength depthWidth n (omega arith) (omega arith) (omega arith) (recordsOf n p) fit in
+      let rest = image-end 1 headerLength depthWidth n (omega arith) (omega arith) (omega arith) (recordsOf n p) fit in
+      rw (lt-ltb (length l) (e + 8) (rw (length-unpacked (imageOf 1 headerLength depthWidth n (recordsOf n p))) near), rest, number-zeros _)
 
   -- nothing is at fault
-  pub image-sound : firstFault n (tablesIn 32 16 n (unpacked (image n p))) ≡ why 0 0 0
+  pub image-sound : firstFault n (tablesIn headerLength depthWidth n (unpacked (image n p))) ≡ why 0 0 0
   image-sound = rw image-tables (sized-check (sized n (tablesOf n p)) refl (unfold checkOn in sound-check n p (storable n p fits) holds low few))
     where
       sized-check : (b : Bool) → sized n (tablesOf n p) ≡ b → cond (sized n (tablesOf n p)) (firstFault n (tablesOf n p)) (why 1 0 0) ≡ why 0 0 0
@@ -133,6 +134,6 @@ module _ (n : ℕ) (low : 1 ≤ n) (few : n ≤ 16) (p : Network) (holds : sound
           let z : _≡_ {A = ℕ} 1 0 = ap (λ c. c .number) (rw e at h) in
           absurd (omega arith)
 
-  pub image-examined : examined 32 16 n (unpacked (image n p)) ≡ why 0 0 0
+  pub image-examined : examined headerLength depthWidth n (unpacked (image n p)) ≡ why 0 0 0
   unfolding examined afterWalk
   image-examined = rw (image-walk, image-ends) image-sound

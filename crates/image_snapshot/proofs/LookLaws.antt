@@ -12,15 +12,16 @@ use Rattle.basics.proofs.Tests.{clash, Choice, yes!, no!, choice, and-left, and
 use Rattle.bits.specs.Bits.{unpacked}
 use Rattle.bits.proofs.Bytes.{length-unpacked}
 use Rattle.image.specs.Places.{nodePlace, channelsPlace}
-use Rattle.image.specs.Widths.{nodeWidth}
+use Rattle.image.specs.Widths.{nodeWidth, headerLength, depthWidth}
 use Rattle.image.specs.inner.Parts.{Inside}
 use Rattle.image.proofs.Bounds.{node-small}
 use Rattle.image.proofs.PlaceLaws.{node-in, start-in}
 use Rattle.image_reader.specs.Fields.{standsIn}
-use Rattle.image_reader.specs.Record.{recordIn, nodeInside, nodeOn}
+use Rattle.image_reader.specs.Record.{recordIn, nodeInside, nodeOn, unread}
 use Rattle.image_reading.specs.Examine.{examined}
 use Rattle.image_reading.specs.inner.Cells.{Walkable}
-use Rattle.image_reading.specs.Header.{saidHeader, headerOf}
+use Rattle.image_reading.specs.Header.{headerOf}
+use Rattle.image_reading.specs.inner.Answers.{saidHeader}
 use Rattle.image_reading.specs.declared.Fields.{Fields}
 use Rattle.image_reading.specs.declared.Header.the-variants.{Good, Refused}
 use Rattle.image_reading.specs.declared.Header.{Header}
@@ -29,13 +30,13 @@ use Rattle.lent.specs.declared.Checked.{Checked}
 use Rattle.protocol.specs.Network.{Node, isNode}
 use Rattle.protocol.proofs.NodeLaws.{node-passes}
 use Rattle.lent.specs.declared.Checked.the-variants as checks
-use Rattle.image_reader.specs.Record.{unread}
 use Rattle.refusal.specs.Refusal.{why, whyOf}
 use Rattle.refusal.specs.declared.Refusal.{Refusal}
 use Rattle.refusal.specs.Outcome.{Answered}
 use Rattle.refusal.specs.declared.Why.{Why}
 use Rattle.refusal.proofs.RefusalLaws.{never-0}
 use Rattle.tables.proofs.RowsLaws.{product-le}
+use Rattle.height.specs.Words.{heightSize}
 use Rattle.image_snapshot.specs.ReadNode.{nodePlaced, nodeExamined, nodeSized, nodeHeaded, readNodeOn}
 
 -- the records before one of 16 nodes take few bits
@@ -65,14 +66,14 @@ unfolding readNodeOn nodeHeaded
 node-headed xs k place row e q = ap (nodeHeaded (unpacked xs) k place row) (ap saidHeader (sym q) ∙ e)
 
 module _ (h n : ℕ) (l : List ℕ) (k place : ℕ) (row : List ℕ) where
-  pub node-sizes : (length row ≡ n * 7 → ⊥) → unread (why 1 0 0) row ≡ nodeSized h n l k place row
+  pub node-sizes : (length row ≡ n * heightSize → ⊥) → unread (why 1 0 0) row ≡ nodeSized h n l k place row
   unfolding nodeSized
-  node-sizes d = rw (ne-eqb (length row) (n * 7) d)
+  node-sizes d = rw (ne-eqb (length row) (n * heightSize) d)
 
-  module _ (wide : length row ≡ n * 7) {r : Checked} (answers : saidCheck r ≡ examined 32 16 n l) where
+  module _ (wide : length row ≡ n * heightSize) {r : Checked} (answers : saidCheck r ≡ examined headerLength depthWidth n l) where
     by : {x : Checked} → r ≡ x → nodeExamined h n l k place row (saidCheck x) ≡ nodeSized h n l k place row
     unfolding nodeSized
-    by e = rw (eq-eqb (length row) (n * 7) wide, ← answers, e)
+    by e = rw (eq-eqb (length row) (n * heightSize) wide, ← answers, e)
 
     pub node-faulty : {why : Refusal} → r ≡ checks.Refused why → unread (whyOf why) row ≡ nodeSized h n l k place row
     unfolding nodeExamined
@@ -105,18 +106,18 @@ module _ (h n : ℕ) (l : List ℕ) (k place : ℕ) (row : List ℕ) where
     at-place at e q = rw (node-passes n k node, eq-eqb place (nodePlace h 16 n k) (q ∙ e), q)
 
 -- the record of node k stands inside an image that was walked
-pub record-inside : (xs : List ℕ) (n k at : ℕ) → Walkable 32 16 n (unpacked xs) → Node n k → at ≡ nodePlace 32 16 n k → Inside xs at (nodeWidth 16 n)
+pub record-inside : (xs : List ℕ) (n k at : ℕ) → Walkable headerLength depthWidth n (unpacked xs) → Node n k → at ≡ nodePlace headerLength depthWidth n k → Inside xs at (nodeWidth 16 n)
 record-inside xs n k at w node e =
     let z : suc (k - 1) ≡ k = omega (arith, node .low) in
-    let a : nodePlace 32 16 n k + nodeWidth 16 n ≤ channelsPlace 32 16 n = rw z at (node-in 32 16 n (k - 1) (omega (arith, node .low, node .high))) in
-    let b = start-in 32 16 n (unpacked xs) in
+    let a : nodePlace headerLength depthWidth n k + nodeWidth 16 n ≤ channelsPlace headerLength depthWidth n = rw z at (node-in headerLength depthWidth n (k - 1) (omega (arith, node .low, node .high))) in
+    let b = start-in headerLength depthWidth n (unpacked xs) in
     record {
       small = omega (arith, a, b, w .small, e);
       inside = omega (arith, a, b, w .inside, e, length-unpacked xs);
     }
 
 -- a reader refuses no record that stands inside
-module _ (n : ℕ) (xs : List ℕ) (at : ℕ) (row : List ℕ) (low : 1 ≤ n) (high : n ≤ 16) (wide : length row ≡ n * 7) (i : Inside xs at (nodeWidth 16 n)) where
+module _ (n : ℕ) (xs : List ℕ) (at : ℕ) (row : List ℕ) (low : 1 ≤ n) (high : n ≤ 16) (wide : length row ≡ n * heightSize) (i : Inside xs at (nodeWidth 16 n)) where
   pub reader-reads : nodeOn n xs at row ≡ recordIn n (unpacked xs) at
   unfolding nodeOn nodeInside standsIn
   reader-reads =
@@ -124,7 +125,7 @@ module _ (n : ℕ) (xs : List ℕ) (at : ℕ) (row : List ℕ) (low : 1 ≤ n) (
       rw (
         le-ltb n 1 low,
         le-ltb 16 n high,
-        eq-eqb (length row) (n * 7) wide,
+        eq-eqb (length row) (n * heightSize) wide,
         lt-ltb (at + w) (2 ^ 64) (omega (arith, i .small)),
         le-leb (at + w) (8 * length xs) (i .inside),
       )

@@ -6,7 +6,7 @@ use mathlib.Core.List.{List}
 use mathlib.Core.Path.{_≡_, sym, ap, _∙_}
 use lib.ListN.{length, drop}
 use Rattle.bits.specs.Bits.{field, unpacked}
-use Rattle.height.specs.Words.{heightWords}
+use Rattle.height.specs.Words.{heightWords, heightSize}
 use Rattle.image.specs.Image.{image}
 use Rattle.image.specs.Places.{nodePlace, recordsIn, tablesIn}
 use Rattle.image.specs.inner.Parts.{rowFrom}
@@ -27,28 +27,29 @@ use Rattle.tables.specs.Load.{load, tablesOf}
 use Rattle.tables.specs.Records.{recordsOf, rowWords}
 use Rattle.tables.specs.Row.{clockIn, neighborsIn, formingIn}
 use Rattle.tables.specs.Rows.{rows}
-use Rattle.tables.specs.Tables.{Tables, nodeOf}
+use Rattle.tables.specs.Tables.{Tables, nodeOf, rowHead}
 use Rattle.tables.proofs.Back.{node-of}
 use Rattle.tables.proofs.RecordsLaws.{node-from}
 use Rattle.tables.proofs.TablesLaws.{tables-back}
 use Rattle.image_snapshot.specs.ReadNode.{Looked, readNodeOn}
 use Rattle.image_snapshot.proofs.AcceptedLaws.{header-good}
 use Rattle.image_snapshot.proofs.ImageLaws.{image-header, image-fields, image-tables, image-examined}
+use Rattle.image.specs.Widths.{headerLength, depthWidth}
 use Rattle.image_snapshot.proofs.NodePlaces.{own-place}
 
 -- accepted, with the words of a row of the tables
 abbrev pub rowLooked : List ℕ → Looked
 rowLooked row =
-    outcome (accepted (record { clock = record { 0 = clockIn row }; neighbors = neighborsIn row; forming = formingIn row })) (drop 3 row)
+    outcome (accepted (record { clock = record { 0 = clockIn row }; neighbors = neighborsIn row; forming = formingIn row })) (drop rowHead row)
 
 -- the record at a node's place is that node's row of the image's tables
-row-looked : (n : ℕ) (l : List ℕ) (k : ℕ) → Node n k → recordIn n l (nodePlace 32 16 n k) ≡ rowLooked (nodeOf n k (tablesIn 32 16 n l .nodes))
+row-looked : (n : ℕ) (l : List ℕ) (k : ℕ) → Node n k → recordIn n l (nodePlace headerLength depthWidth n k) ≡ rowLooked (nodeOf n k (tablesIn headerLength depthWidth n l .nodes))
 unfolding recordIn rowFrom tablesIn
-row-looked n l k node = ap rowLooked (row-read 32 16 n l k ∙ sym (node-from n (recordsIn 32 16 n l) (records-shaped 32 16 n l) k node))
+row-looked n l k node = ap rowLooked (row-read headerLength depthWidth n l k ∙ sym (node-from n (recordsIn headerLength depthWidth n l) (records-shaped headerLength depthWidth n l) k node))
 
 module _ (n : ℕ) (low : 1 ≤ n) (few : n ≤ 16) (p : Network) (holds : sound n p ≡ true) (inside : restrict n p ≡ p)
-    (k : ℕ) (node : Node n k) (row : List ℕ) (wide : length row ≡ n * 7) where
-  look-tables : readNodeOn (image n p) k (nodePlace 32 16 n k) row ≡ rowLooked (nodeOf n k (tablesOf n p .nodes))
+    (k : ℕ) (node : Node n k) (row : List ℕ) (wide : length row ≡ n * heightSize) where
+  look-tables : readNodeOn (image n p) k (nodePlace headerLength depthWidth n k) row ≡ rowLooked (nodeOf n k (tablesOf n p .nodes))
   look-tables =
       let xs = image n p in
       let count : field xs 16 5 ≡ n = ap (λ (f : Fields). f .n) (image-fields n low few p holds inside) in
@@ -58,14 +59,14 @@ module _ (n : ℕ) (low : 1 ≤ n) (few : n ≤ 16) (p : Network) (holds : sound
       ∙ row-looked n (unpacked xs) k node
       ∙ ap (λ (t : Tables). rowLooked (nodeOf n k (t .nodes))) (image-tables n low few p holds inside)
 
-  pub look-image : readNodeOn (image n p) k (nodePlace 32 16 n k) row
+  pub look-image : readNodeOn (image n p) k (nodePlace headerLength depthWidth n k) row
       ≡ outcome (accepted (record { clock = record { 0 = p .clock k }; neighbors = setOf n (p .neighbors k); forming = setOf n (p .forming k) }))
       (rows n (λ v. heightWords (p .height k v)))
   unfolding rowWords recordsOf
   look-image = look-tables ∙ ap rowLooked (node-of n p k node)
 
-pub look-saved : (n : ℕ) (t : Tables) → Words t → checkOn n t .number ≡ 0 → (k : ℕ) → Node n k → (row : List ℕ) → length row ≡ n * 7
-    → readNodeOn (image n (load n t)) k (nodePlace 32 16 n k) row ≡ rowLooked (nodeOf n k (t .nodes))
+pub look-saved : (n : ℕ) (t : Tables) → Words t → checkOn n t .number ≡ 0 → (k : ℕ) → Node n k → (row : List ℕ) → length row ≡ n * heightSize
+    → readNodeOn (image n (load n t)) k (nodePlace headerLength depthWidth n k) row ≡ rowLooked (nodeOf n k (t .nodes))
 look-saved n t words passes k node row wide =
     let size = sound-sized n t passes in
     let whole = sound-fits n t words passes in

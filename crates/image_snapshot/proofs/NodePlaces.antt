@@ -11,7 +11,7 @@ use lib.ListN.{length}
 use Rattle.basics.proofs.Tests.{Choice, yes!, no!, choice, and-left, and-right}
 use Rattle.bits.specs.Bits.{field, unpacked}
 use Rattle.image.specs.Places.{nodePlace}
-use Rattle.image.specs.Widths.{heightWidth, nodeWidth}
+use Rattle.image.specs.Widths.{heightWidth, nodeWidth, headerLength, depthWidth}
 use Rattle.image_reader.specs.Record.{recordIn, unread}
 use Rattle.image_reading.specs.Examine.{examined}
 use Rattle.image_reading.specs.Header.{headerOf}
@@ -19,6 +19,7 @@ use Rattle.protocol.specs.Network.{Node, isNode}
 use Rattle.protocol.proofs.NodeLaws.{node-passes}
 use Rattle.refusal.specs.Refusal.{why}
 use Rattle.image_snapshot.specs.ReadNode.{nodePlaced, nodeExamined, nodeSized, nodeHeaded, readNodeOn}
+use Rattle.height.specs.Words.{heightSize}
 use Rattle.image_snapshot.proofs.AcceptedLaws.{HeaderGood, header-good}
 
 -- ---- where node k of n starts
@@ -45,40 +46,40 @@ place-one h n j k a b e = go (decLt j k) (decLt k j)
 
 pub record Readable (xs row : List ℕ) : Type 0 where
   pub header : HeaderGood xs
-  pub wide : length row ≡ field xs 16 5 * 7
-  pub contents : examined 32 16 (field xs 16 5) (unpacked xs) .number ≡ 0
+  pub wide : length row ≡ field xs 16 5 * heightSize
+  pub contents : examined headerLength depthWidth (field xs 16 5) (unpacked xs) .number ≡ 0
 
 module _ (xs row : List ℕ) (ok : Readable xs row) (k : ℕ) where
   -- then 3 and 13 decide
   pub placed : (place : ℕ) → readNodeOn xs k place row ≡ nodePlaced 32 (field xs 16 5) (unpacked xs) k place row
   unfolding readNodeOn nodeHeaded nodeSized nodeExamined
-  placed place = rw (ok .header .is, eq-eqb (length row) (field xs 16 5 * 7) (ok .wide), ok .contents, ok .header .header)
+  placed place = rw (ok .header .is, eq-eqb (length row) (field xs 16 5 * heightSize) (ok .wide), ok .contents, ok .header .header)
 
   module _ (node : Node (field xs 16 5) k) where
     -- accepted where the record starts: header length + (k − 1)(64 + 96 n)
-    pub own-place : readNodeOn xs k (nodePlace 32 16 (field xs 16 5) k) row ≡ recordIn (field xs 16 5) (unpacked xs) (nodePlace 32 16 (field xs 16 5) k)
+    pub own-place : readNodeOn xs k (nodePlace headerLength depthWidth (field xs 16 5) k) row ≡ recordIn (field xs 16 5) (unpacked xs) (nodePlace headerLength depthWidth (field xs 16 5) k)
     unfolding nodePlaced
     own-place =
-        placed (nodePlace 32 16 (field xs 16 5) k)
-        ∙ rw (node-passes (field xs 16 5) k node, eq-eqb (nodePlace 32 16 (field xs 16 5) k) (nodePlace 32 16 (field xs 16 5) k) refl)
+        placed (nodePlace headerLength depthWidth (field xs 16 5) k)
+        ∙ rw (node-passes (field xs 16 5) k node, eq-eqb (nodePlace headerLength depthWidth (field xs 16 5) k) (nodePlace headerLength depthWidth (field xs 16 5) k) refl)
 
     -- refused with 13 everywhere else
-    pub no-place : (place : ℕ) → (place ≡ nodePlace 32 16 (field xs 16 5) k → ⊥) → readNodeOn xs k place row ≡ unread (why 13 0 0) row
+    pub no-place : (place : ℕ) → (place ≡ nodePlace headerLength depthWidth (field xs 16 5) k → ⊥) → readNodeOn xs k place row ≡ unread (why 13 0 0) row
     unfolding nodePlaced
     no-place place d =
-        placed place ∙ rw (node-passes (field xs 16 5) k node, ne-eqb place (nodePlace 32 16 (field xs 16 5) k) d)
+        placed place ∙ rw (node-passes (field xs 16 5) k node, ne-eqb place (nodePlace headerLength depthWidth (field xs 16 5) k) d)
 
     -- the place at which another node's record starts
     pub other-place : (j : ℕ) → Node (field xs 16 5) j → (j ≡ k → ⊥)
-        → readNodeOn xs k (nodePlace 32 16 (field xs 16 5) j) row ≡ unread (why 13 0 0) row
-    other-place j a d = no-place (nodePlace 32 16 (field xs 16 5) j) (λ e. d (place-one 32 (field xs 16 5) j k a node e))
+        → readNodeOn xs k (nodePlace headerLength depthWidth (field xs 16 5) j) row ≡ unread (why 13 0 0) row
+    other-place j a d = no-place (nodePlace headerLength depthWidth (field xs 16 5) j) (λ e. d (place-one 32 (field xs 16 5) j k a node e))
 
 -- ---- what an accepted call shows
 
 pub record NodeGood (xs : List ℕ) (k place : ℕ) (row : List ℕ) : Type 0 where
   pub readable : Readable xs row
   pub node : Node (field xs 16 5) k
-  pub place-is : place ≡ nodePlace 32 16 (field xs 16 5) k
+  pub place-is : place ≡ nodePlace headerLength depthWidth (field xs 16 5) k
 
 pub node-good : (xs : List ℕ) (k place : ℕ) (row : List ℕ) → readNodeOn xs k place row .said .why .number ≡ 0 → NodeGood xs k place row
 unfolding readNodeOn nodeHeaded nodeSized nodeExamined nodePlaced
@@ -90,33 +91,33 @@ node-good xs k place row zero = go (choice (eqb (headerOf xs .why .number) 0)) z
     l : List ℕ
     l = unpacked xs
 
-    at : HeaderGood xs → length row ≡ n * 7 → examined 32 16 n l .number ≡ 0 → Choice (isNode n k) → Choice (eqb place (nodePlace 32 16 n k))
+    at : HeaderGood xs → length row ≡ n * heightSize → examined headerLength depthWidth n l .number ≡ 0 → Choice (isNode n k) → Choice (eqb place (nodePlace headerLength depthWidth n k))
         → nodePlaced 32 n l k place row .said .why .number ≡ 0 → NodeGood xs k place row
     at h w c (no! e) q z = let y : _≡_ {A = ℕ} 3 0 = rw e at z in absurd (omega arith)
     at h w c (yes! e) (no! q) z = let y : _≡_ {A = ℕ} 13 0 = rw (e, q) at z in absurd (omega arith)
     at h w c (yes! e) (yes! q) z = record {
       readable = record { header = h; wide = w; contents = c };
       node = record { low = leb-true 1 k (and-left (leb 1 k) (leb k n) e); high = leb-true k n (and-right (leb 1 k) (leb k n) e) };
-      place-is = eqb-true place (nodePlace 32 16 n k) q;
+      place-is = eqb-true place (nodePlace headerLength depthWidth n k) q;
     }
 
-    exam : HeaderGood xs → length row ≡ n * 7 → Choice (eqb (examined 32 16 n l .number) 0)
-        → nodeExamined 32 n l k place row (examined 32 16 n l) .said .why .number ≡ 0 → NodeGood xs k place row
+    exam : HeaderGood xs → length row ≡ n * heightSize → Choice (eqb (examined headerLength depthWidth n l .number) 0)
+        → nodeExamined 32 n l k place row (examined headerLength depthWidth n l) .said .why .number ≡ 0 → NodeGood xs k place row
     exam h w (no! e) z =
-        let y : examined 32 16 n l .number ≡ 0 = rw e at z in
-        absurd (eqb-false (examined 32 16 n l .number) 0 e y)
+        let y : examined headerLength depthWidth n l .number ≡ 0 = rw e at z in
+        absurd (eqb-false (examined headerLength depthWidth n l .number) 0 e y)
     exam h w (yes! e) z =
-        at h w (eqb-true (examined 32 16 n l .number) 0 e) (choice (isNode n k)) (choice (eqb place (nodePlace 32 16 n k))) (rw e at z)
+        at h w (eqb-true (examined headerLength depthWidth n l .number) 0 e) (choice (isNode n k)) (choice (eqb place (nodePlace headerLength depthWidth n k))) (rw e at z)
 
-    wide : HeaderGood xs → Choice (eqb (length row) (n * 7)) → nodeSized 32 n l k place row .said .why .number ≡ 0 → NodeGood xs k place row
+    wide : HeaderGood xs → Choice (eqb (length row) (n * heightSize)) → nodeSized 32 n l k place row .said .why .number ≡ 0 → NodeGood xs k place row
     wide h (no! e) z = let y : _≡_ {A = ℕ} 1 0 = rw e at z in absurd (omega arith)
-    wide h (yes! e) z = exam h (eqb-true (length row) (n * 7) e) (choice (eqb (examined 32 16 n l .number) 0)) (rw e at z)
+    wide h (yes! e) z = exam h (eqb-true (length row) (n * heightSize) e) (choice (eqb (examined headerLength depthWidth n l .number) 0)) (rw e at z)
 
     go : Choice (eqb (headerOf xs .why .number) 0) → nodeHeaded l k place row (headerOf xs) .said .why .number ≡ 0 → NodeGood xs k place row
     go (no! e) z = absurd (eqb-false (headerOf xs .why .number) 0 e (rw e at z))
     go (yes! e) z =
         let h = header-good xs (eqb-true (headerOf xs .why .number) 0 e) in
-        wide h (choice (eqb (length row) (n * 7))) (rw (h .is, h .header) at z)
+        wide h (choice (eqb (length row) (n * heightSize))) (rw (h .is, h .header) at z)
 
 -- a place is accepted for at most one node of an image
 pub at-most-one : (xs : List ℕ) (j k place : ℕ) (row rows : List ℕ) → readNodeOn xs j place row .said .why .number ≡ 0

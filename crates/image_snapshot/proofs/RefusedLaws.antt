@@ -23,6 +23,8 @@ use Rattle.tables.specs.Load.{load}
 use Rattle.tables.specs.Tables.{Tables, sized}
 use Rattle.image_snapshot.specs.ReadNode.{nodePlaced, nodeExamined, nodeSized, nodeHeaded, readNodeOn}
 use Rattle.image_snapshot.specs.Restore.{restoreExamined, restoreOf, restoreHeaded, restoreOn}
+use Rattle.image.specs.Widths.{headerLength, depthWidth}
+use Rattle.height.specs.Words.{heightSize}
 use Rattle.image_snapshot.specs.Save.{saveChecked, saveOn}
 
 -- ---- a save
@@ -48,14 +50,14 @@ save-kept n t out z = go (choice (eqb (checkOn n t .number) 0)) z
 module _ (t : Tables) (l : List ℕ) where
   kept-of : (m : ℕ) → (restoreOf m l t .said .number ≡ 0 → ⊥) → restoreOf m l t .after ≡ t
   unfolding restoreOf restoreExamined
-  kept-of m = go (choice (sized m t)) (choice (eqb (examined 32 16 m l .number) 0))
+  kept-of m = go (choice (sized m t)) (choice (eqb (examined headerLength depthWidth m l .number) 0))
     where
-      go : Choice (sized m t) → Choice (eqb (examined 32 16 m l .number) 0)
-          → (cond (sized m t) (restoreExamined m l t (examined 32 16 m l)) (outcome (why 1 0 0) t) .said .number ≡ 0 → ⊥)
-          → cond (sized m t) (restoreExamined m l t (examined 32 16 m l)) (outcome (why 1 0 0) t) .after ≡ t
+      go : Choice (sized m t) → Choice (eqb (examined headerLength depthWidth m l .number) 0)
+          → (cond (sized m t) (restoreExamined m l t (examined headerLength depthWidth m l)) (outcome (why 1 0 0) t) .said .number ≡ 0 → ⊥)
+          → cond (sized m t) (restoreExamined m l t (examined headerLength depthWidth m l)) (outcome (why 1 0 0) t) .after ≡ t
       go (no! e) f z = rw e
       go (yes! e) (no! f) z = rw (e, f)
-      go (yes! e) (yes! f) z = absurd (z (rw e (eqb-true (examined 32 16 m l .number) 0 f)))
+      go (yes! e) (yes! f) z = absurd (z (rw e (eqb-true (examined headerLength depthWidth m l .number) 0 f)))
 
   kept-headed : (h : Answered Fields) → (restoreHeaded l t h .said .number ≡ 0 → ⊥) → restoreHeaded l t h .after ≡ t
   unfolding restoreHeaded
@@ -92,11 +94,11 @@ module _ (h n : ℕ) (l : List ℕ) (k place : ℕ) (row : List ℕ) where
 
   sized-kept : (nodeSized h n l k place row .said .why .number ≡ 0 → ⊥) → nodeSized h n l k place row .after ≡ row
   unfolding nodeSized
-  sized-kept z = go (choice (eqb (length row) (n * 7))) z
+  sized-kept z = go (choice (eqb (length row) (n * heightSize))) z
     where
-      go : Choice (eqb (length row) (n * 7)) → (nodeSized h n l k place row .said .why .number ≡ 0 → ⊥) → nodeSized h n l k place row .after ≡ row
+      go : Choice (eqb (length row) (n * heightSize)) → (nodeSized h n l k place row .said .why .number ≡ 0 → ⊥) → nodeSized h n l k place row .after ≡ row
       go (no! e) z = rw e
-      go (yes! e) z = rw e (examined-kept (examined 32 16 n l) (λ q. z (rw e q)))
+      go (yes! e) z = rw e (examined-kept (examined headerLength depthWidth n l) (λ q. z (rw e q)))
 
 pub node-kept : (xs : List ℕ) (k place : ℕ) (row : List ℕ) → (readNodeOn xs k place row .said .why .number ≡ 0 → ⊥) → readNodeOn xs k place row .after ≡ row
 unfolding readNodeOn nodeHeaded

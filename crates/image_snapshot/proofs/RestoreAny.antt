@@ -13,6 +13,7 @@ use Rattle.refusal.specs.Outcome.{Answered, outcome}
 use Rattle.refusal.specs.Refusal.{why}
 use Rattle.tables.specs.Tables.{Tables, sized}
 use Rattle.tables.specs.inner.Fit.{Sized}
+use Rattle.image.specs.Widths.{headerLength, depthWidth}
 use Rattle.image_snapshot.specs.Restore.{restoreExamined, restoreOf, restoreHeaded, restoreOn}
 
 -- tables of one size are of the same size for every number of nodes
@@ -26,8 +27,8 @@ module _ (n : ℕ) (t u : Tables) (a : Sized n t) (b : Sized n u) (l : List ℕ)
   said-of m = rw (same-size n m t u a b) (go (choice (sized m u)))
     where
       go : Choice (sized m u)
-          → cond (sized m u) (restoreExamined m l t (examined 32 16 m l)) (outcome (why 1 0 0) t) .said
-          ≡ cond (sized m u) (restoreExamined m l u (examined 32 16 m l)) (outcome (why 1 0 0) u) .said
+          → cond (sized m u) (restoreExamined m l t (examined headerLength depthWidth m l)) (outcome (why 1 0 0) t) .said
+          ≡ cond (sized m u) (restoreExamined m l u (examined headerLength depthWidth m l)) (outcome (why 1 0 0) u) .said
       go (no! e) = rw e
       go (yes! e) = rw e
 

@@ -12,7 +12,8 @@ use Rattle.bits.specs.Bits.{field, unpacked}
 use Rattle.image.specs.Places.{tablesIn}
 use Rattle.image_reading.specs.Examine.{examined}
 use Rattle.image_reading.specs.inner.Cells.{Walkable}
-use Rattle.image_reading.specs.Header.{saidHeader, headerOf}
+use Rattle.image_reading.specs.Header.{headerOf}
+use Rattle.image_reading.specs.inner.Answers.{saidHeader}
 use Rattle.image_reading.specs.declared.Fields.{Fields}
 use Rattle.image_reading.specs.declared.Header.the-variants.{Good, Refused}
 use Rattle.image_reading.specs.declared.Header.{Header}
@@ -27,6 +28,7 @@ use Rattle.refusal.proofs.RefusalLaws.{never-0}
 use Rattle.tables.specs.Tables.{Tables, sized}
 use Rattle.image_reading.proofs.Header as declared
 use Rattle.image_snapshot.specs.Restore.{restoreExamined, restoreOf, restoreHeaded, restoreOn}
+use Rattle.image.specs.Widths.{headerLength, depthWidth}
 use Rattle.image_snapshot.proofs.AcceptedLaws.{header-good, examined-good}
 
 -- ---- the header
@@ -60,12 +62,12 @@ good-fields xs e {f} q =
 
 -- ---- behind it
 
-module _ (n : ℕ) (l : List ℕ) {r : Checked} (answers : saidCheck r ≡ examined 32 16 n l) where
-  said : {x : Checked} → r ≡ x → examined 32 16 n l ≡ saidCheck x
+module _ (n : ℕ) (l : List ℕ) {r : Checked} (answers : saidCheck r ≡ examined headerLength depthWidth n l) where
+  said : {x : Checked} → r ≡ x → examined headerLength depthWidth n l ≡ saidCheck x
   said h = sym answers ∙ ap saidCheck h
 
   -- nothing is at fault: all stands inside the image
-  pub sound-walks : n ≤ 16 → r ≡ checks.Sound → Walkable 32 16 n l
+  pub sound-walks : n ≤ 16 → r ≡ checks.Sound → Walkable headerLength depthWidth n l
   sound-walks few h = examined-good n l few (ap (λ (c : Why). c .number) (said h)) .walkable
 
   module _ (t : Tables) (fit : sized n t ≡ true) where
@@ -73,7 +75,7 @@ module _ (n : ℕ) (l : List ℕ) {r : Checked} (answers : saidCheck r ≡ exami
     unfolding restoreOf restoreExamined
     of-refused {why} h = rw (fit, said h, never-0 why)
 
-    pub of-done : r ≡ checks.Sound → outcome (why 0 0 0) (tablesIn 32 16 n l) ≡ restoreOf n l t
+    pub of-done : r ≡ checks.Sound → outcome (why 0 0 0) (tablesIn headerLength depthWidth n l) ≡ restoreOf n l t
     unfolding restoreOf restoreExamined
     of-done h = rw (fit, said h)
 

@@ -13,6 +13,7 @@ use Rattle.protocol.specs.Network.{Network, restrict}
 use Rattle.protocol.proofs.SoundStep.{sound-fits}
 use Rattle.tables.specs.Load.{load, tablesOf}
 use Rattle.tables.proofs.Back.{storable, load-back}
+use Rattle.image.specs.Widths.{headerLength, depthWidth}
 use Rattle.image_snapshot.proofs.ImageLaws.{image-fields, image-tables}
 
 -- a network of n nodes that can be saved
@@ -31,6 +32,6 @@ pub same-network : (n : ℕ) (p q : Network) → Savable n p → Savable n q →
 same-network n p q a b e =
     let tp = image-tables n (a .low) (a .few) p (a .holds) (a .inside) in
     let tq = image-tables n (b .low) (b .few) q (b .holds) (b .inside) in
-    let tables : tablesOf n p ≡ tablesOf n q = sym tp ∙ (ap (λ (xs : List ℕ). tablesIn 32 16 n (unpacked xs)) e ∙ tq) in
+    let tables : tablesOf n p ≡ tablesOf n q = sym tp ∙ (ap (λ (xs : List ℕ). tablesIn headerLength depthWidth n (unpacked xs)) e ∙ tq) in
     sym (load-back n p (storable n p (sound-fits n p (a .inside) (a .holds))))
     ∙ (ap (load n) tables ∙ load-back n q (storable n q (sound-fits n q (b .inside) (b .holds))))

@@ -15,7 +15,7 @@ use Rattle.image.proofs.PartLaws.{records-shaped}
 use Rattle.image.proofs.Whole.{Accepted, image-of-read}
 use Rattle.image_reading.proofs.ShapeLaws.{records-words}
 use Rattle.lent.specs.Check.{checkOn}
-use Rattle.lent.proofs.CheckLaws.{is-sized, check-places}
+use Rattle.lent.proofs.CheckLaws.{is-sized, check-pairs}
 use Rattle.lent.proofs.SoundLoads.{sound-loads, load-inside}
 use Rattle.lent.proofs.SoundTables.{Words, sound-fits as tables-fit}
 use Rattle.protocol.specs.Network.{Network}
@@ -26,48 +26,48 @@ use Rattle.tables.specs.Cell.{messageWords}
 use Rattle.tables.specs.Load.{load, tablesOf}
 use Rattle.tables.specs.Records.{recordsOf}
 use Rattle.tables.specs.Tables.{Tables}
-use Rattle.tables.specs.inner.Fit.{Sized}
-use Rattle.tables.specs.inner.Fit.{TablesFit}
+use Rattle.tables.specs.inner.Fit.{Sized, TablesFit}
 use Rattle.tables.proofs.RecordsLaws.{Agree, network-shaped, made-sized, tables-tell}
 use Rattle.tables.proofs.TablesLaws.{tables-back}
 use Rattle.image_snapshot.specs.Restore.{restoreOn}
 use Rattle.image_snapshot.specs.Save.{saveChecked, saveOn}
+use Rattle.image.specs.Widths.{headerLength, depthWidth}
 use Rattle.image_snapshot.proofs.AcceptedLaws.{HeaderGood, ExaminedGood, restore-good}
 
 -- ---- an image that was accepted, of n nodes by its header
 
 module _ (xs : List ℕ) (bytes : Below 256 xs) (head : HeaderGood xs) (good : ExaminedGood (field xs 16 5) (unpacked xs)) where
-  size : Sized (field xs 16 5) (tablesIn 32 16 (field xs 16 5) (unpacked xs))
+  size : Sized (field xs 16 5) (tablesIn headerLength depthWidth (field xs 16 5) (unpacked xs))
   unfolding tablesIn
-  size = made-sized (field xs 16 5) _ (records-shaped 32 16 (field xs 16 5) (unpacked xs)) (head .low) (head .few)
+  size = made-sized (field xs 16 5) _ (records-shaped headerLength depthWidth (field xs 16 5) (unpacked xs)) (head .low) (head .few)
 
   -- the tables pass the check
-  passes : checkOn (field xs 16 5) (tablesIn 32 16 (field xs 16 5) (unpacked xs)) .number ≡ 0
-  passes = rw (← check-places (field xs 16 5) (tablesIn 32 16 (field xs 16 5) (unpacked xs)) (is-sized _ _ size)) (good .sound)
+  passes : checkOn (field xs 16 5) (tablesIn headerLength depthWidth (field xs 16 5) (unpacked xs)) .number ≡ 0
+  passes = rw (← check-pairs (field xs 16 5) (tablesIn headerLength depthWidth (field xs 16 5) (unpacked xs)) (is-sized _ _ size)) (good .sound)
 
-  words : Words (tablesIn 32 16 (field xs 16 5) (unpacked xs))
-  words = records-words 32 16 (field xs 16 5) (unpacked xs) (below-unpacked xs) (omega arith)
+  words : Words (tablesIn headerLength depthWidth (field xs 16 5) (unpacked xs))
+  words = records-words headerLength depthWidth (field xs 16 5) (unpacked xs) (below-unpacked xs) (omega arith)
 
-  tables-fit-is : TablesFit (field xs 16 5) (tablesIn 32 16 (field xs 16 5) (unpacked xs))
+  tables-fit-is : TablesFit (field xs 16 5) (tablesIn headerLength depthWidth (field xs 16 5) (unpacked xs))
   tables-fit-is = tables-fit _ _ words passes
 
   p : Network
-  p = load (field xs 16 5) (tablesIn 32 16 (field xs 16 5) (unpacked xs))
+  p = load (field xs 16 5) (tablesIn headerLength depthWidth (field xs 16 5) (unpacked xs))
 
   fits : Fits (field xs 16 5) p
   unfolding p
   fits = sound-fits _ _ (load-inside _ _ tables-fit-is) (sound-loads _ _ words passes)
 
-  agree : Agree (field xs 16 5) (recordsOf (field xs 16 5) p) (recordsIn 32 16 (field xs 16 5) (unpacked xs))
+  agree : Agree (field xs 16 5) (recordsOf (field xs 16 5) p) (recordsIn headerLength depthWidth (field xs 16 5) (unpacked xs))
   unfolding tablesIn tablesOf p
   agree =
-      tables-tell (field xs 16 5) (recordsOf (field xs 16 5) p) (recordsIn 32 16 (field xs 16 5) (unpacked xs))
-      (network-shaped _ p) (records-shaped 32 16 (field xs 16 5) (unpacked xs)) short (tables-back _ _ tables-fit-is)
+      tables-tell (field xs 16 5) (recordsOf (field xs 16 5) p) (recordsIn headerLength depthWidth (field xs 16 5) (unpacked xs))
+      (network-shaped _ p) (records-shaped headerLength depthWidth (field xs 16 5) (unpacked xs)) short (tables-back _ _ tables-fit-is)
     where
       short : (i j : ℕ) → i < field xs 16 5 → j < field xs 16 5 → length (recordsOf (field xs 16 5) p .channel (suc i) (suc j)) ≤ 8
       short i j l m = unfold recordsOf in omega (arith, length-map (p .channel (suc i) (suc j)) messageWords, fits .lengths (suc i) (suc j))
 
-  accepted : Accepted 1 32 16 (field xs 16 5) xs
+  accepted : Accepted 1 headerLength depthWidth (field xs 16 5) xs
   unfolding field fieldIn
   accepted = record {
     bytes = bytes;
@@ -82,11 +82,11 @@ module _ (xs : List ℕ) (bytes : Below 256 xs) (head : HeaderGood xs) (good : E
   }
 
   -- and their image is the bytes again
-  image-again : image (field xs 16 5) (load (field xs 16 5) (tablesIn 32 16 (field xs 16 5) (unpacked xs))) ≡ xs
+  image-again : image (field xs 16 5) (load (field xs 16 5) (tablesIn headerLength depthWidth (field xs 16 5) (unpacked xs))) ≡ xs
   unfolding image p
   image-again =
-      same-image (field xs 16 5) (recordsOf (field xs 16 5) p) (recordsIn 32 16 (field xs 16 5) (unpacked xs)) agree 16 1 32
-      ∙ sym (image-of-read 1 32 16 (field xs 16 5) (omega arith) (omega arith) (omega arith) xs accepted)
+      same-image (field xs 16 5) (recordsOf (field xs 16 5) p) (recordsIn headerLength depthWidth (field xs 16 5) (unpacked xs)) agree 16 1 32
+      ∙ sym (image-of-read 1 headerLength depthWidth (field xs 16 5) (omega arith) (omega arith) (omega arith) xs accepted)
 
 pub save-restored : (xs : List ℕ) → Below 256 xs → (t : Tables) → restoreOn xs t .said .number ≡ 0
     → (out : List ℕ) → saveOn (field xs 16 5) (restoreOn xs t .after) out ≡ putFront xs out

@@ -17,7 +17,7 @@ use Rattle.protocol.specs.Network.{isNode}
 use Rattle.refusal.specs.Outcome.{Answered, Outcome}
 use Rattle.refusal.specs.Refusal.{why}
 use Rattle.refusal.specs.declared.Why.{Why}
-use Rattle.tables.specs.Tables.{heightSize}
+use Rattle.height.specs.Words.{heightSize}
 
 -- what is said, and the lent row afterwards
 abbrev pub Looked : Type 0

@@ -2,7 +2,7 @@
 // Every call answers or refuses; a refusal changes nothing lent.
 ghost use mathlib.Core.Path.{_≡_};
 ghost use Rattle.image_reader.specs.Record.{saidNode};
-ghost use Rattle.image_reading.specs.Header.{saidHeader};
+ghost use Rattle.image_reading.specs.inner.Answers.{saidHeader};
 ghost use Rattle.lent.specs.Check.{saidCheck};
 ghost use Rattle.refusal.specs.Outcome.{outcome};
 ghost use Rattle.refusal.specs.Refusal.{whyOf};

@@ -9,7 +9,7 @@ ghost use Rattle.image_reader.specs.Record.{saidNode};
 ghost use Rattle.image_reading.specs.inner.Cells.{Walkable};
 ghost use Rattle.protocol.specs.Network.{Node};
 ghost use Rattle.refusal.specs.Outcome.{outcome};
-ghost use Rattle.tables.specs.Tables.{heightSize};
+ghost use Rattle.height.specs.Words.{heightSize};
 ghost use Rattle.image_snapshot.specs.ReadNode.{nodePlaced, nodeSized};
 use image_reader::NodeRead;
 use image_reading::Fields;

@@ -41,9 +41,9 @@ module _ (n : ℕ) (t : Tables) where
   unfolding checkOn
   check-sizes e = rw e
 
-  pub check-places : sized n t ≡ true → firstFault n t ≡ checkOn n t
+  pub check-pairs : sized n t ≡ true → firstFault n t ≡ checkOn n t
   unfolding checkOn
-  check-places e = rw e
+  check-pairs e = rw e
 
 -- ---- no fault: every pair holds
 
@@ -95,6 +95,6 @@ module _ (n : ℕ) (t : Tables) (sound : checkOn n t .number ≡ 0) where
   pub sound-sized : Sized n t
   sound-sized = sized-is n t (both .0)
 
-  pub sound-place : (u v : ℕ) → Node n u → Node n v → pairAt n t u v ≡ true
-  sound-place u v a b =
+  pub sound-pair : (u v : ℕ) → Node n u → Node n v → pairAt n t u v ≡ true
+  sound-pair u v a b =
       rows-hold (pairAt n t) n 1 n (unfold firstFault in both .1) u v (a .low) (omega (arith, a .high)) b

@@ -111,9 +111,9 @@ module _ (n : ℕ) (t : Tables) (words : Words t) (passes : checkOn n t .number 
 -- ---- the network
 
 module _ (n : ℕ) (t : Tables) (words : Words t) (passes : checkOn n t .number ≡ 0) where
-  place-loads : (u v : ℕ) → Node n u → Node n v → pairHolds n (load n t) u v ≡ true
+  pair-loads : (u v : ℕ) → Node n u → Node n v → pairHolds n (load n t) u v ≡ true
   unfolding pairHolds
-  place-loads u v a b = go (equal? u v)
+  pair-loads u v a b = go (equal? u v)
     where
       go : (u ≡ v) ⊎ (u ≡ v → ⊥) → cond (eqb u v) (ownHolds n (load n t) u) (viewHolds n (load n t) u v && channelHolds n (load n t) u v) ≡ true
       go (inl e) = rw (eq-eqb u v e) (own-loads n t words passes u a)
@@ -121,7 +121,7 @@ module _ (n : ℕ) (t : Tables) (words : Words t) (passes : checkOn n t .number 
 
   pub sound-loads : sound n (load n t) ≡ true
   unfolding sound
-  sound-loads = every-pair-all n (pairHolds n (load n t)) λ u l h v m k. place-loads u v (record { low = l; high = h }) (record { low = m; high = k })
+  sound-loads = every-pair-all n (pairHolds n (load n t)) λ u l h v m k. pair-loads u v (record { low = l; high = h }) (record { low = m; high = k })
 
 -- ---- nothing beyond node n
 

@@ -207,9 +207,9 @@ module _ (n : ℕ) (p : Network) (ok : Storable n p) (holds : sound n p ≡ true
   unfolding sound
   at u v a b = every-pair-at n (pairHolds n p) holds u (a .low) (a .high) v (b .low) (b .high)
 
-  place-back : (u v : ℕ) → Node n u → Node n v → pairAt n (tablesOf n p) u v ≡ true
+  pair-back : (u v : ℕ) → Node n u → Node n v → pairAt n (tablesOf n p) u v ≡ true
   unfolding pairAt pairSound pairHolds
-  place-back u v a b = rw (node-of n p u a, cell-of n p u v a b) (go (equal? u v) (at u v a b))
+  pair-back u v a b = rw (node-of n p u a, cell-of n p u v a b) (go (equal? u v) (at u v a b))
     where
       row : List ℕ
       row = rowWords n (recordsOf n p) u
@@ -228,4 +228,4 @@ module _ (n : ℕ) (p : Network) (ok : Storable n p) (holds : sound n p ≡ true
 
   pub sound-check : checkOn n (tablesOf n p) ≡ why 0 0 0
   unfolding checkOn firstFault
-  sound-check = rw sizes (no-fault-from (pairAt n (tablesOf n p)) n 1 n (omega arith) (omega arith) place-back)
+  sound-check = rw sizes (no-fault-from (pairAt n (tablesOf n p)) n 1 n (omega arith) (omega arith) pair-back)

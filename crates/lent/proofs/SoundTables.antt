@@ -22,7 +22,7 @@ use Rattle.tables.specs.inner.Fit.{Sized, CellFits, RowFits, TablesFit}
 use Rattle.tables.proofs.RowsLaws.{node-length, channel-length}
 use Rattle.tables.proofs.WordRuns.{zero-at}
 use Rattle.lent.specs.Check.{pairAt, checkOn}
-use Rattle.lent.proofs.CheckLaws.{sound-sized, sound-place}
+use Rattle.lent.proofs.CheckLaws.{sound-sized, sound-pair}
 
 -- every word is one of 32 bits
 pub record Words (t : Tables) : Type 0 where
@@ -40,23 +40,23 @@ module _ (n : ℕ) (t : Tables) (sound : checkOn n t .number ≡ 0) where
   pub sound-own : (u : ℕ) → Node n u → OwnHolds n u (nodeOf n u (t .nodes)) (channelOf n u u (t .channels))
   unfolding pairAt pairSound
   sound-own u a =
-      own-holds n u (nodeOf n u (t .nodes)) (channelOf n u u (t .channels)) (rw (eq-eqb u u refl) at (sound-place n t sound u u a a))
+      own-holds n u (nodeOf n u (t .nodes)) (channelOf n u u (t .channels)) (rw (eq-eqb u u refl) at (sound-pair n t sound u u a a))
 
   module _ (u v : ℕ) (a : Node n u) (b : Node n v) (differ : u ≡ v → ⊥) where
-    other-place : (viewSound n v (nodeOf n u (t .nodes)) && channelSound n u v (nodeOf n u (t .nodes)) (channelOf n u v (t .channels))) ≡ true
+    other-pair : (viewSound n v (nodeOf n u (t .nodes)) && channelSound n u v (nodeOf n u (t .nodes)) (channelOf n u v (t .channels))) ≡ true
     unfolding pairAt pairSound
-    other-place = rw (ne-eqb u v differ) at (sound-place n t sound u v a b)
+    other-pair = rw (ne-eqb u v differ) at (sound-pair n t sound u v a b)
 
     pub sound-view : viewSound n v (nodeOf n u (t .nodes)) ≡ true
     sound-view =
         and-left (viewSound n v (nodeOf n u (t .nodes))) (channelSound n u v (nodeOf n u (t .nodes)) (channelOf n u v (t .channels)))
-        other-place
+        other-pair
 
     pub sound-channel : ChannelHolds n u v (nodeOf n u (t .nodes)) (channelOf n u v (t .channels))
     sound-channel =
         channel-holds n u v (nodeOf n u (t .nodes)) (channelOf n u v (t .channels))
         (and-right (viewSound n v (nodeOf n u (t .nodes))) (channelSound n u v (nodeOf n u (t .nodes)) (channelOf n u v (t .channels)))
-        other-place)
+        other-pair)
 
 -- ---- the tables fit
 

@@ -12,7 +12,8 @@ use Rattle.protocol.specs.Network.{capacity}
 use Rattle.tables.specs.Cell.{count, slot, queue, allZero}
 use Rattle.tables.specs.Row.{neighborsIn, formingIn, heightIn}
 use Rattle.tables.specs.Rows.{part}
-use Rattle.tables.specs.Tables.{rowHead, heightSize}
+use Rattle.height.specs.Words.{heightSize}
+use Rattle.tables.specs.Tables.{rowHead}
 
 -- the sets hold nodes 1 to n only, are disjoint and never hold u; the own height is one of u's; the cell u u is unused
 unfoldable pub ownSound : ℕ → ℕ → List ℕ → List ℕ → Bool

@@ -46,7 +46,7 @@ messages-timely u c (m ∷ ms) (more s posted) =
     and-both (and-both (le-leb (m .timestamp) c (s .timestamp-le)) (within (m .timestamp) (m .height) (s .bounded)))
     (messages-timely u c ms posted)
 
--- ---- places
+-- ---- pairs
 
 module _ (n : ℕ) (p : Network) (fits : Fits n p) where
   one-set : (u v : ℕ) → notInBoth (p .neighbors u) (p .forming u) v ≡ true

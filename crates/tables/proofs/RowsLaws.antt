@@ -158,7 +158,7 @@ module _ (n u : ℕ) (a : Node n u) (ns : List ℕ) (size : length ns ≡ n * wi
     pub node-other : (w : ℕ) → Node n w → (w ≡ u → ⊥) → nodeOf n w (putNode n u row ns) ≡ nodeOf n w ns
     node-other w b d = row-other (width n) n ns size (u - 1) (omega arith) row full (w - 1) (omega arith) (λ e. d (omega arith))
 
--- two pairs of nodes with one place are one pair
+-- two pairs of nodes with one cell are one pair
 pub pair-same : (n u v w x : ℕ) → Node n u → Node n v → Node n w → Node n x → pairOf n w x ≡ pairOf n u v → (w ≡ u) × (x ≡ v)
 pair-same n u v w x a b c d e = go (decLt w u) (decLt u w)
   where
@@ -186,12 +186,12 @@ module _ (n u v : ℕ) (a : Node n u) (b : Node n v) (cs : List ℕ) (size : len
 
 -- ---- where a row holds the height of node v
 
-pub height-place : (row : List ℕ) (v : ℕ) → 1 ≤ v → heightIn row v ≡ heightAt row (3 + (v - 1) * 7)
+pub height-from-start : (row : List ℕ) (v : ℕ) → 1 ≤ v → heightIn row v ≡ heightAt row (3 + (v - 1) * 7)
 unfolding heightIn
-height-place row zero h = absurd (omega arith)
-height-place row (suc k) h = let e : k ≡ suc k - 1 = omega arith in ap (λ (j : ℕ). heightAt row (3 + j * 7)) e
+height-from-start row zero h = absurd (omega arith)
+height-from-start row (suc k) h = let e : k ≡ suc k - 1 = omega arith in ap (λ (j : ℕ). heightAt row (3 + j * 7)) e
 
-pub put-height-place : (row : List ℕ) (v : ℕ) (x : Height) → 1 ≤ v → putHeight row v x ≡ storedAt row (3 + (v - 1) * 7) x
+pub put-height-from-start : (row : List ℕ) (v : ℕ) (x : Height) → 1 ≤ v → putHeight row v x ≡ storedAt row (3 + (v - 1) * 7) x
 unfolding putHeight
-put-height-place row zero x h = absurd (omega arith)
-put-height-place row (suc k) x h = let e : k ≡ suc k - 1 = omega arith in ap (λ (j : ℕ). storedAt row (3 + j * 7) x) e
+put-height-from-start row zero x h = absurd (omega arith)
+put-height-from-start row (suc k) x h = let e : k ≡ suc k - 1 = omega arith in ap (λ (j : ℕ). storedAt row (3 + j * 7) x) e

@@ -4,9 +4,9 @@ use mathlib.Core.Bool.{Bool, true, _&&_}
 use mathlib.Core.List.{List, [], _∷_, _++_}
 use lib.Dec.{eqb}
 use lib.ListN.{getD}
-use Rattle.height.specs.Words.{heightAt, heightWords}
+use Rattle.height.specs.Words.{heightAt, heightWords, heightSize}
 use Rattle.protocol.specs.Network.{Message}
-use Rattle.tables.specs.Tables.{heightSize, messageSize}
+use Rattle.tables.specs.Tables.{messageSize}
 
 abbrev pub count : List ℕ → ℕ
 count cell = getD cell 0 0

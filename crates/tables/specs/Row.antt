@@ -3,9 +3,9 @@ use Prim.Native.Nat.{ℕ, zero, suc, _+_, _*_}
 use mathlib.Core.List.{List}
 use lib.ListN.{getD}
 use Rattle.height.specs.Height.{zeroHeight}
-use Rattle.height.specs.Words.{heightAt}
+use Rattle.height.specs.Words.{heightAt, heightSize}
 use Rattle.height.specs.declared.Height.{Height}
-use Rattle.tables.specs.Tables.{rowHead, heightSize}
+use Rattle.tables.specs.Tables.{rowHead}
 
 abbrev pub clockIn : List ℕ → ℕ
 clockIn row = getD row 0 0

@@ -7,6 +7,7 @@ use lib.Dec.{eqb, leb}
 use lib.ListN.{length}
 use denote.Ref.{RefT}
 use denote.Triple.Both.{Both}
+use Rattle.height.specs.Words.{heightSize}
 use Rattle.protocol.specs.Network.{capacity}
 use Rattle.tables.specs.Rows.{rowAt}
 
@@ -28,10 +29,7 @@ atExit nodes channels = tables (nodes .exit .now) (channels .exit .now)
 abbrev pub rowHead : ℕ
 rowHead = 3
 
--- words of a height, and of a message: its height and its timestamp
-abbrev pub heightSize : ℕ
-heightSize = 7
-
+-- words of a message: its height and its timestamp
 abbrev pub messageSize : ℕ
 messageSize = heightSize + 1
 

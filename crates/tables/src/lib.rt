@@ -3,10 +3,10 @@
 pub mod cells;
 pub mod rows;
 
-// Words of a row before its heights (clock, N, F), of a height, of a message (its height and its timestamp).
-pub const ROW_HEAD: usize = 3;
+pub use height::words::HEIGHT_SIZE;
 
-pub const HEIGHT_SIZE: usize = 7;
+// Words of a row before its heights (clock, N, F), and of a message: its height and its timestamp.
+pub const ROW_HEAD: usize = 3;
 
 pub const MESSAGE_SIZE: usize = HEIGHT_SIZE + 1;
 

@@ -6,13 +6,14 @@ use mathlib.Core.Path.{_≡_}
 use lib.ListN.{length, take, drop}
 use Rattle.bits.specs.Bits.{bits}
 use Rattle.bits.specs.inner.Written.{total}
+use Rattle.height.specs.Words.{heightSize}
 use Rattle.tables.specs.Cell.{count}
 use Rattle.tables.specs.Records.{cellWords}
 use Rattle.tables.specs.Row.{clockIn, neighborsIn, formingIn}
 use Rattle.tables.specs.Rows.{rows, rowAt}
-use Rattle.tables.specs.Tables.{rowHead, heightSize, messageSize}
+use Rattle.tables.specs.Tables.{rowHead, messageSize}
 use Rattle.image.specs.Places.{fieldIn, channelFrom, heightsFrom, walked, channelsNext, channelsPlace}
-use Rattle.image.specs.Widths.{widthsOf, recordBits}
+use Rattle.image.specs.Widths.{widthsOf, recordBits, recordOf}
 
 -- ---- the bits of words
 
@@ -30,11 +31,19 @@ cellBits d cell = bits 4 (count cell) ++ recordsBits d messageSize (count cell) 
 
 -- ---- the words of bits l
 
+-- c records of k words, w bits apart from a place on
+unfoldable pub recordsFrom : ℕ → ℕ → ℕ → ℕ → List ℕ → ℕ → List ℕ
+recordsFrom d k w c l at = rows c (λ v. recordOf d k (drop (at + (v - 1) * w) l))
+
 unfoldable pub rowFrom : ℕ → ℕ → List ℕ → ℕ → List ℕ
 rowFrom d n l at = fieldIn l at 32 ∷ fieldIn l (at + 32) 16 ∷ fieldIn l (at + 48) 16 ∷ heightsFrom d n l at
 
 unfoldable pub cellFrom : ℕ → List ℕ → ℕ → List ℕ
 cellFrom d l at = cellWords (channelFrom d l at)
+
+-- behind the last channel
+unfoldable pub imageEnd : ℕ → ℕ → ℕ → List ℕ → ℕ
+imageEnd h d n l = walked (channelsNext d n l) n (channelsPlace h d n)
 
 -- ---- what the functions require: the part of w bits stands inside the bytes
 
@@ -56,7 +65,3 @@ pub record RecordRun (d k w c : ℕ) (xs ws : List ℕ) (at : ℕ) : Type 0 wher
   pub few : c ≤ 16
   pub words : c * k ≤ length ws
   pub inside : Inside xs at (c * w)
-
--- behind the last channel
-unfoldable pub imageEnd : ℕ → ℕ → ℕ → List ℕ → ℕ
-imageEnd h d n l = walked (channelsNext d n l) n (channelsPlace h d n)

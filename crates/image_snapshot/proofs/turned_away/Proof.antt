@@ -1,7 +1,7 @@
 -- `image_snapshot::turned_away` meets its contract: it is asked of no good header.
 use mathlib.Core.Path.{sym, ap}
 use borrow.Author.Needs.{needs}
-use Rattle.image_reading.specs.Header.{saidHeader}
+use Rattle.image_reading.specs.inner.Answers.{saidHeader}
 use Rattle.image_reading.specs.declared.Header.{Header}
 use Rattle.image_snapshot.proofs.turned_away.Statement.{statement}
 use Rattle.image_snapshot.proofs.turned_away.Tie as tie

@@ -1,7 +1,7 @@
 -- `lent::check` meets its contract, by whether the sizes are right.
 use mathlib.Core.Path.{sym, _∙_}
 use borrow.Author.Needs.{needs}
-use Rattle.lent.proofs.CheckLaws.{sized-is, check-sizes, check-places}
+use Rattle.lent.proofs.CheckLaws.{sized-is, check-sizes, check-pairs}
 use Rattle.lent.proofs.check.Statement.{statement}
 use Rattle.lent.proofs.check.Tie as tie
 
@@ -12,7 +12,7 @@ first-fault-requires : tie.Need-first-fault-requires
 first-fault-requires c κs = sized-is _ _ (sym (c .before .is-sized .ensures) ∙ c .if1 .taken)
 
 returns : tie.Need-returns
-returns c = c .first-fault .ensures ∙ check-places _ _ (sym (c .before .before .is-sized .ensures) ∙ c .before .if1 .taken)
+returns c = c .first-fault .ensures ∙ check-pairs _ _ (sym (c .before .before .is-sized .ensures) ∙ c .before .if1 .taken)
 
 returns-2 : tie.Need-returns-2
 returns-2 c = check-sizes _ _ (sym (c .before .is-sized .ensures) ∙ c .if1 .left)

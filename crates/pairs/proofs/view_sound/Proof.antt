@@ -7,7 +7,7 @@ use Rattle.nodeset.specs.NodeSet.{member}
 use Rattle.tables.specs.Cell.{allZero}
 use Rattle.tables.specs.Row.{neighborsIn}
 use Rattle.tables.specs.Rows.{part}
-use Rattle.tables.specs.Tables.{heightSize}
+use Rattle.height.specs.Words.{heightSize}
 use Rattle.pairs.specs.Pair.{viewSound}
 use Rattle.pairs.proofs.PairLaws.{slice-part}
 use Rattle.pairs.proofs.view_sound.Statement.{statement}

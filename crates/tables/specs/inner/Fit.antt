@@ -8,7 +8,8 @@ use denote.Ref.{RefT}
 use Rattle.protocol.specs.Network.{Node, capacity}
 use Rattle.tables.specs.Cell.{count}
 use Rattle.tables.specs.Row.{neighborsIn, formingIn}
-use Rattle.tables.specs.Tables.{Tables, rowHead, heightSize, messageSize, width, cellWidth, nodeOf, channelOf, tables}
+use Rattle.height.specs.Words.{heightSize}
+use Rattle.tables.specs.Tables.{Tables, rowHead, messageSize, width, cellWidth, nodeOf, channelOf, tables}
 
 -- the tables as they are lent
 abbrev pub given : RefT (List ℕ) → RefT (List ℕ) → Tables

@@ -5,7 +5,8 @@ use lib.ListN.{set, drop, replicate, take}
 use Rattle.height.specs.declared.Height.{Height}
 use Rattle.height.specs.inner.Stored.{storedAt}
 use Rattle.tables.specs.Cell.{count, slot}
-use Rattle.tables.specs.Tables.{heightSize, messageSize, cellWidth, rowHead, width, pairOf}
+use Rattle.height.specs.Words.{heightSize}
+use Rattle.tables.specs.Tables.{messageSize, cellWidth, rowHead, width, pairOf}
 
 -- one more message, h at the clock t
 unfoldable pub appended : List ℕ → Height → ℕ → List ℕ

@@ -1,4 +1,4 @@
--- `lent::search::first_fault` meets its contract. The invariants: the whole answer is that of the rows from u on, and of the places
+-- `lent::search::first_fault` meets its contract. The invariants: the whole answer is that of the rows from u on, and of the pairs
 -- from v on in row u. The measures are how many of each are left.
 use Prim.Native.Nat.{_+_, _-_}
 use native.Mathlib.Omega.{arith}

@@ -1,4 +1,4 @@
--- `tables::rows::channel_start` meets its contract: the pair's place is below n times n, which is at most 256.
+-- `tables::rows::channel_start` meets its contract: the pair's cell is below n times n, which is at most 256.
 use native.Mathlib.Omega.{arith}
 use Prim.Native.Nat.{_*_, _≤_, _<_}
 use borrow.Author.Needs.{needs}
