@@ -1,6 +1,6 @@
 #!/usr/bin/env bash
-# The tests in other languages: the C example, the Rust library, and the independent implementation beside the proved one.
-# Needs rt, gcc and cargo; where one of the last two is missing, its steps are left out and a line says so.
+# The tests beside the proofs: the papers' names and counts, the C example, the Rust library, and the independent implementation beside the proved one.
+# Needs rt, gcc, cargo and python3; where one of the last three is missing, its steps are left out and a line says so.
 # A line for each step; the last line says how many passed; exit code 0 only if all did.
 set -euo pipefail
 cd "$(dirname "$0")/.."
@@ -39,6 +39,11 @@ bench_prints() {
 }
 
 step "docs/TRACEABILITY.md names what there is" bash tests/traceability.sh
+if python3 --version >"$log/step" 2>&1; then
+    step "what must be believed stands apart (tests/figures.py)" python3 tests/figures.py
+else
+    echo "tests: NOT RUN, no python3 here: what must be believed stands apart"
+fi
 step "bin/bench prints examples/plot.out" bench_prints
 step "the archive for C and Rust (rt staticlib abi)" rt staticlib abi
 if gcc --version >"$log/step" 2>&1; then
