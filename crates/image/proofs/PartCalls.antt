@@ -11,6 +11,7 @@ use Rattle.bits.proofs.Numbers.{below-bits, length-bits}
 use Rattle.tables.specs.Cell.{count}
 use Rattle.tables.specs.Records.{slotWords, cellWords}
 use Rattle.tables.specs.Row.{clockIn, neighborsIn, formingIn}
+use Rattle.tables.specs.Rows.{rows}
 use Rattle.tables.specs.Tables.{width}
 use Rattle.tables.proofs.RowsLaws.{rest-is}
 use Rattle.image.specs.Places.{fieldIn, messagesOf, channelFrom, heightsFrom}
@@ -73,6 +74,11 @@ cell-put d cell xs x₁ x₂ at s h i p q =
     omega (arith, length-messages-bits d (count cell) (drop 1 cell) (simp length-drop (omega arith))) in
     put-then xs x₁ x₂ at 4 (count cell) (at + 4) ms refl p
     (q ∙ ap (λ (ws : List ℕ). written x₁ (at + 4) (recordsBits d 8 (count cell) ws)) (rest-is 1 cell)) room
+
+-- a channel without messages is its count alone
+pub cell-empty : (d : ℕ) (cell xs : List ℕ) (at : ℕ) {x : List ℕ} → count cell ≡ 0 → x ≡ written xs at (bits 4 (count cell)) → x ≡ written xs at (cellBits d cell)
+unfolding cellBits recordsBits rows
+cell-empty d cell xs at none p = p ∙ rw none (ap (written xs at) (sym (append-nil (bits 4 0))))
 
 -- ---- words got
 

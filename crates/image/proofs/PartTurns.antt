@@ -215,6 +215,10 @@ drop-zeros a b =
     ap (drop a) (sym (replicate-append-replicate {A = ℕ} a b 0))
     ∙ drop-at (replicate a 0) (replicate b 0) a (length-replicate {A = ℕ} a 0)
 
+pub no-messages : (d c : ℕ) (l : List ℕ) (at : ℕ) {ws : List ℕ} → c ≡ 0 → ws ≡ replicate 64 0 → ws ≡ slotWords 8 (messagesOf d c (drop at l))
+unfolding slotWords messagesOf
+no-messages d c l at none z = rw none z
+
 pub messages-done : (d c : ℕ) (l : List ℕ) (at : ℕ) {ws zeros : List ℕ} → c ≤ 8 → zeros ≡ replicate 64 0
     → ws ≡ recordsFrom d 8 (messageWidth d) c l at ++ drop (c * 8) zeros → ws ≡ slotWords 8 (messagesOf d c (drop at l))
 messages-done d c l at h z e =

@@ -21,8 +21,11 @@ pub fn put_cell(buf: &mut [u8], at: usize, depth: u8, cell: &[u32]) -> usize
         × (r ≡ at + 4 + count (now (cell .entry)) * messageWidth depth) ⌝ }
 {
     let c = cell[0] as usize;
-    let w = widths::message(depth);
     bits::put(buf, at, 4, cell[0]);
+    if c == 0 {
+        return at + 4;
+    }
+    let w = widths::message(depth);
     super::records::put_records(buf, at + 4, depth, MESSAGE_SIZE, w, c, &cell[1..]);
     at + 4 + c * w
 }
@@ -33,6 +36,9 @@ fn get_messages(bytes: &[u8], at: usize, depth: u8, c: usize, words: &mut [u32])
     ensures { λ _. ⌜ now (words .exit) ≡ slotWords capacity (messagesOf depth c (drop at (unpacked (now (bytes .entry))))) ⌝ }
 {
     tables::cells::fill_zero(words);
+    if c == 0 {
+        return;
+    }
     super::records::get_records(
         bytes,
         at,
