@@ -35,10 +35,14 @@ pub fn height_holds(n: u32, k: u32, h: Height) -> bool
     requires { ⌜ Negated (h .pair .nlts .0) ⌝ }
     ensures { λ r. ⌜ r ≡ heightHolds n k h ⌝ }
 {
+    if !level_holds(n, h.level) {
+        return false;
+    }
+    if !delta_holds(h.delta) {
+        return false;
+    }
     let lid = h.pair.lid;
-    let level = level_holds(n, h.level);
-    let delta = delta_holds(h.delta);
-    level & delta & (1 <= lid) & (lid <= n) & (h.id == k)
+    (1 <= lid) & (lid <= n) & (h.id == k)
 }
 
 // Two sets of node u, as words: of nodes 1 to n, disjoint, never holding u.
