@@ -11,7 +11,6 @@ every (suc n) p = p (suc n) && every n p
 
 -- at each pair of 1 to n
 unfoldable pub everyPair : ℕ → (ℕ → ℕ → Bool) → Bool
-unfolding every
 everyPair n p = every n (λ u. every n (p u))
 
 -- the test holds of each element

@@ -6,7 +6,6 @@ ghost use Rattle.protocol.specs.Step.{up, down, receive};
 ghost use Rattle.refusal.specs.Outcome.{outcome};
 ghost use Rattle.tables.specs.Tables.{atEntry, atExit};
 ghost use Rattle.election.specs.StepOn.{stepOn};
-ghost use Rattle.election.specs.inner.Deciding.{eventOf};
 use decision::Decision;
 use lent::Checked;
 use protocol::Answer;
@@ -29,33 +28,32 @@ pub enum Decided {
     Refused(Refusal),
 }
 
-// The event of this kind at u with v.
-fn step(kind: Kind, n: u32, u: u32, v: u32, nodes: &mut [u32], channels: &mut [u32]) -> Answer
-    ensures { λ r. ⌜ outcome (said r) (atExit nodes channels) ≡ stepOn n (eventOf kind u v) (atEntry nodes channels) ⌝ }
-{
-    match lent::check(n, nodes, channels) {
-        Checked::Sound => events::event(kind, n, u, v, nodes, channels),
-        Checked::Refused(why) => Answer::Refused(why),
-    }
-}
-
 // Channel u to v goes up, at u.
 pub fn up(n: u32, u: u32, v: u32, nodes: &mut [u32], channels: &mut [u32]) -> Answer
     ensures { λ r. ⌜ outcome (said r) (atExit nodes channels) ≡ stepOn n (up u v) (atEntry nodes channels) ⌝ }
 {
-    step(Kind::Raised, n, u, v, nodes, channels)
+    match lent::check(n, nodes, channels) {
+        Checked::Sound => events::event(Kind::Raised, n, u, v, nodes, channels),
+        Checked::Refused(why) => Answer::Refused(why),
+    }
 }
 
 // Channel u to v goes down, at u.
 pub fn down(n: u32, u: u32, v: u32, nodes: &mut [u32], channels: &mut [u32]) -> Answer
     ensures { λ r. ⌜ outcome (said r) (atExit nodes channels) ≡ stepOn n (down u v) (atEntry nodes channels) ⌝ }
 {
-    step(Kind::Dropped, n, u, v, nodes, channels)
+    match lent::check(n, nodes, channels) {
+        Checked::Sound => events::event(Kind::Dropped, n, u, v, nodes, channels),
+        Checked::Refused(why) => Answer::Refused(why),
+    }
 }
 
 // The first message of channel v to u is received, at u.
 pub fn receive(n: u32, v: u32, u: u32, nodes: &mut [u32], channels: &mut [u32]) -> Answer
     ensures { λ r. ⌜ outcome (said r) (atExit nodes channels) ≡ stepOn n (receive v u) (atEntry nodes channels) ⌝ }
 {
-    step(Kind::Received, n, u, v, nodes, channels)
+    match lent::check(n, nodes, channels) {
+        Checked::Sound => events::event(Kind::Received, n, u, v, nodes, channels),
+        Checked::Refused(why) => Answer::Refused(why),
+    }
 }

@@ -1,8 +1,8 @@
--- `election::step` meets its contract: refused by the check, or the event on tables that fit.
+-- `election::down` meets its contract: refused by the check, or the event on tables that fit.
 use borrow.Author.Needs.{needs}
 use Rattle.election.proofs.CheckedLaws.{checked-fits, checked-refused, checked-sound}
-use Rattle.election.proofs.step.Statement.{statement}
-use Rattle.election.proofs.step.Tie as tie
+use Rattle.election.proofs.down.Statement.{statement}
+use Rattle.election.proofs.down.Tie as tie
 
 event-requires : tie.Need-event-requires
 event-requires c κs =
@@ -20,8 +20,8 @@ returns c =
 returns-2 : tie.Need-returns-2
 returns-2 c = checked-refused _ _ (c .before .before .before .check .ensures) _ (c .before .why .given .1)
 
-pub step-spec : {M : Type 1} → statement M
-step-spec =
+pub down-spec : {M : Type 1} → statement M
+down-spec =
     tie.close
     (tie.spec (λ c κs. search needs) (λ c. search needs) event-requires (λ c. search needs) (λ c. search needs)
     (λ c. search needs) returns (λ c. search needs) (λ c. search needs) returns-2)
