@@ -1,2 +1,2 @@
--- Definitions for the proofs alone: no public promise cites them. Calls by the meaning.
+-- Definitions for leaf functions and proofs: no public promise cites them. Calls by the meaning.
 pub mod Meant

@@ -1,2 +1,2 @@
--- Definitions for the proofs alone: no public promise cites them. What the functions that take a line apart answer.
+-- Definitions for leaf functions and proofs: no public promise cites them. What the functions that take a line apart answer.
 pub mod Leaves

@@ -1,3 +1,3 @@
--- Definitions for the proofs alone: no promise of a crate above cites them.
+-- Definitions for leaf functions and proofs: no public promise cites them.
 pub mod After
 pub mod Bounds

@@ -1,4 +1,4 @@
--- Definitions for the proofs alone: contracts of private functions cite them, no contract of `up`, `down` or `receive` does.
+-- Definitions for leaf functions and proofs: contracts of private functions cite them, no contract of `up`, `down` or `receive` does.
 pub mod Cells
 pub mod Deciding
 pub mod Meant

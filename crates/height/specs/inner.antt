@@ -1,3 +1,3 @@
--- Definitions for the proofs alone: no public promise cites them. The comparison part by part, and a height stored as words.
+-- Definitions for leaf functions and proofs: no public promise cites them. The comparison part by part, and a height stored as words.
 pub mod Comparison
 pub mod Stored

@@ -1,2 +1,2 @@
--- Definitions for the proofs alone: no public promise cites them. The bits of both tables, as the loops write them.
+-- Definitions for leaf functions and proofs: no public promise cites them. The bits of both tables, as the loops write them.
 pub mod Words

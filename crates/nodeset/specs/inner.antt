@@ -1,2 +1,2 @@
--- Definitions for the proofs alone: no public promise cites them. What the operations on sets give.
+-- Definitions for leaf functions and proofs: no public promise cites them. What the operations on sets give.
 pub mod Operations

@@ -1,3 +1,3 @@
--- Definitions for the proofs alone: no public promise cites them. Tables whose words their network gives back: what leaf functions ask of each other.
+-- Definitions for leaf functions and proofs: no public promise cites them. Tables whose words their network gives back: what leaf functions ask of each other.
 pub mod Fit
 pub mod Written

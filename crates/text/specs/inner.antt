@@ -1,2 +1,2 @@
--- Definitions for the proofs alone: no public promise cites them. What pouring bytes leaves.
+-- Definitions for leaf functions and proofs: no public promise cites them. What pouring bytes leaves.
 pub mod Poured
