@@ -55,4 +55,4 @@ pub line-done : {n : ℕ} {t : Tables} {k : ℕ} {l text : List ℕ} {after : Ta
     → (left ≡ poured out at (commandLineOn n t k (commandOf l))) × (behind ≡ at + length (commandLineOn n t k (commandOf l))) × (behind ≤ at + 35)
     × (after ≡ afterCommandOn n t (commandOf l))
 line-done told {out} {left} {at} x near =
-    (x .bytes ∙ ap (poured out at) (told .text-is), x .place ∙ ap (λ (y : List ℕ). at + length y) (told .text-is), near, told .after-is)
+    (x .bytes ∙ ap (poured out at) (told .text-is), x .offset ∙ ap (λ (y : List ℕ). at + length y) (told .text-is), near, told .after-is)

@@ -18,21 +18,21 @@ use Rattle.bench_run.proofs.PourLaws.{Poured, then}
 
 module _ (n : ℕ) (t₀ : Tables) (input : List ℕ) (from : ℕ) (out₀ : List ℕ) (at : ℕ) where
   -- line k starts at `start`; t are the tables now
-  pub record Running (t : Tables) (out : List ℕ) (start k place : ℕ) : Type 0 where
+  pub record Running (t : Tables) (out : List ℕ) (start k offset : ℕ) : Type 0 where
     pub text : List ℕ
-    pub so-far : Poured out₀ at text out place
+    pub so-far : Poured out₀ at text out offset
     pub whole : eventLinesOn n t₀ 1 (linesOf (drop from input)) ≡ text ++ eventLinesOn n t k (linesOf (drop start input))
     pub tables-are : afterLinesOn n t₀ (linesOf (drop from input)) ≡ afterLinesOn n t (linesOf (drop start input))
     pub low : 1 ≤ k
     pub behind : k ≤ start + 1
     pub few : k ≤ length input + 1
-    pub near : place ≤ at + (k - 1) * 35
+    pub near : offset ≤ at + (k - 1) * 35
 
   pub run-start : Running t₀ out₀ from 1 at
   unfolding poured
   run-start = record {
     text = [];
-    so-far = record { bytes = refl; place = sym (add-zero at) };
+    so-far = record { bytes = refl; offset = sym (add-zero at) };
     whole = refl;
     tables-are = refl;
     low = omega arith;
@@ -41,14 +41,14 @@ module _ (n : ℕ) (t₀ : Tables) (input : List ℕ) (from : ℕ) (out₀ : Lis
     near = omega arith;
   }
 
-  pub run-next : (t : Tables) (out : List ℕ) (start k place : ℕ) → Running t out start k place → start < length input
+  pub run-next : (t : Tables) (out : List ℕ) (start k offset : ℕ) → Running t out start k offset → start < length input
       → (end : ℕ) → end ≡ start + toNewline (drop start input) → start ≤ end
       → (l : List ℕ) → l ≡ take (end - start) (drop start input)
       → (u : Tables) (mid : List ℕ) (after : ℕ)
-      → Poured out place (commandLineOn n t k (commandOf l)) mid after → after ≤ place + 35 → u ≡ afterCommandOn n t (commandOf l)
+      → Poured out offset (commandLineOn n t k (commandOf l)) mid after → after ≤ offset + 35 → u ≡ afterCommandOn n t (commandOf l)
       → Running u mid (end + 1) (k + 1) after
   unfolding eventLinesOn afterLinesOn
-  run-next t out start k place r h end ends later l line u mid after x near tabs =
+  run-next t out start k offset r h end ends later l line u mid after x near tabs =
       let ls : linesOf (drop start input) ≡ l ∷ linesOf (drop (end + 1) input) =
       lines-at input start end h ends ∙ ap (λ (y : List ℕ). y ∷ linesOf (drop (end + 1) input)) (sym line) in
       let c = commandOf l in
@@ -67,20 +67,20 @@ module _ (n : ℕ) (t₀ : Tables) (input : List ℕ) (from : ℕ) (out₀ : Lis
         near = omega (arith, r .near, r .low);
       }
 
-  pub run-done : (t : Tables) (out : List ℕ) (start k place : ℕ) → Running t out start k place → length input ≤ start → length input ≤ 65536 → at ≤ 64
+  pub run-done : (t : Tables) (out : List ℕ) (start k offset : ℕ) → Running t out start k offset → length input ≤ start → length input ≤ 65536 → at ≤ 64
       → (out ≡ poured out₀ at (eventLinesOn n t₀ 1 (linesOf (drop from input))))
-      × (place ≡ at + length (eventLinesOn n t₀ 1 (linesOf (drop from input)))) × (place < 2 ^ 28)
+      × (offset ≡ at + length (eventLinesOn n t₀ 1 (linesOf (drop from input)))) × (offset < 2 ^ 28)
       × (t ≡ afterLinesOn n t₀ (linesOf (drop from input)))
   unfolding eventLinesOn afterLinesOn
-  run-done t out start k place r h small low =
+  run-done t out start k offset r h small low =
       let none = lines-at-end input start h in
       let text : r .text ≡ eventLinesOn n t₀ 1 (linesOf (drop from input)) =
       sym (r .whole ∙ ap (λ (y : List (List ℕ)). r .text ++ eventLinesOn n t k y) none ∙ append-nil (r .text)) in (
         r .so-far .bytes ∙ ap (poured out₀ at) text,
-        r .so-far .place ∙ ap (λ (y : List ℕ). at + length y) text,
+        r .so-far .offset ∙ ap (λ (y : List ℕ). at + length y) text,
         omega (arith, r .near, r .few),
         sym (r .tables-are ∙ ap (afterLinesOn n t) none),
       )
 
-  pub run-length : (t : Tables) (out : List ℕ) (start k place : ℕ) → Running t out start k place → length out ≡ length out₀
-  run-length t out start k place r = ap length (r .so-far .bytes) ∙ length-poured out₀ at (r .text)
+  pub run-length : (t : Tables) (out : List ℕ) (start k offset : ℕ) → Running t out start k offset → length out ≡ length out₀
+  run-length t out start k offset r = ap length (r .so-far .bytes) ∙ length-poured out₀ at (r .text)

@@ -55,7 +55,7 @@ module _ (n : ℕ) (low : 1 ≤ n) (few : n ≤ 16) (ls : List (List ℕ)) {t : 
       let stations : stationLinesOn n (tables ns []) ≡ stationLines n (afterLines n fresh ls) =
       rows-only n ns cs ∙ ap (stationLinesOn n) (after ∙ ap (λ (u : Tables). afterLinesOn n u ls) start) ∙ stations-after n low few ls in
       let text = ap₂ (λ (x y : List ℕ). eventHead ++ (x ++ (stationHead ++ y))) events stations in
-      (all .bytes ∙ ap (poured out₀ 0) text, all .place ∙ (zero-add _ ∙ ap length text))
+      (all .bytes ∙ ap (poured out₀ 0) text, all .offset ∙ (zero-add _ ∙ ap length text))
 
 -- ---- by the first line
 

@@ -26,20 +26,20 @@ unfolding stationLineOn
 line-le n ns u = station-le u (heightIn (nodeOf n u ns) u .pair .lid) (clockIn (nodeOf n u ns))
 
 -- the lines of the nodes before u have been poured
-pub record Printed (n : ℕ) (f : ℕ → List ℕ) (out₀ : List ℕ) (at : ℕ) (out : List ℕ) (place u : ℕ) : Type 0 where
+pub record Printed (n : ℕ) (f : ℕ → List ℕ) (out₀ : List ℕ) (at : ℕ) (out : List ℕ) (offset u : ℕ) : Type 0 where
   pub low : 1 ≤ u
   pub high : u ≤ suc n
-  pub near : place ≤ at + (u - 1) * 33
-  pub so-far : Poured out₀ at (rows (u - 1) f) out place
+  pub near : offset ≤ at + (u - 1) * 33
+  pub so-far : Poured out₀ at (rows (u - 1) f) out offset
 
 module _ (n : ℕ) (f : ℕ → List ℕ) (out₀ : List ℕ) (at : ℕ) where
   pub printed-none : Printed n f out₀ at out₀ at 1
   unfolding poured rows
-  printed-none = record { low = omega arith; high = omega arith; near = omega arith; so-far = record { bytes = refl; place = sym (add-zero at) } }
+  printed-none = record { low = omega arith; high = omega arith; near = omega arith; so-far = record { bytes = refl; offset = sym (add-zero at) } }
 
-  pub printed-next : (out mid : List ℕ) (place behind u : ℕ) → Printed n f out₀ at out place u → u ≤ n → Poured out place (f u) mid behind → behind ≤ place + 33
+  pub printed-next : (out mid : List ℕ) (offset behind u : ℕ) → Printed n f out₀ at out offset u → u ≤ n → Poured out offset (f u) mid behind → behind ≤ offset + 33
       → Printed n f out₀ at mid behind (u + 1)
-  printed-next out mid place behind u p h x l =
+  printed-next out mid offset behind u p h x l =
       let a : suc (u - 1) ≡ u = omega (arith, p .low) in
       let b : u + 1 - 1 ≡ u = omega arith in
       let text : rows (u - 1) f ++ f u ≡ rows (u + 1 - 1) f =
@@ -49,11 +49,11 @@ module _ (n : ℕ) (f : ℕ → List ℕ) (out₀ : List ℕ) (at : ℕ) where
         low = omega arith;
         high = omega arith;
         near = omega (arith, p .near, p .low);
-        so-far = record { bytes = all .bytes ∙ ap (poured out₀ at) text; place = all .place ∙ ap (λ (t : List ℕ). at + length t) text };
+        so-far = record { bytes = all .bytes ∙ ap (poured out₀ at) text; offset = all .offset ∙ ap (λ (t : List ℕ). at + length t) text };
       }
 
-  pub printed-all : (out : List ℕ) (place u : ℕ) → Printed n f out₀ at out place u → n < u
-      → (out ≡ poured out₀ at (rows n f)) × (place ≡ at + length (rows n f))
-  printed-all out place u p h =
+  pub printed-all : (out : List ℕ) (offset u : ℕ) → Printed n f out₀ at out offset u → n < u
+      → (out ≡ poured out₀ at (rows n f)) × (offset ≡ at + length (rows n f))
+  printed-all out offset u p h =
       let e : u - 1 ≡ n = omega (arith, p .high) in
-      (p .so-far .bytes ∙ ap (λ (v : ℕ). poured out₀ at (rows v f)) e, p .so-far .place ∙ ap (λ (v : ℕ). at + length (rows v f)) e)
+      (p .so-far .bytes ∙ ap (λ (v : ℕ). poured out₀ at (rows v f)) e, p .so-far .offset ∙ ap (λ (v : ℕ). at + length (rows v f)) e)

@@ -9,7 +9,7 @@ ghost use Rattle.bench_run.specs.inner.OnTables.{commandLineOn, afterCom
 use commands::Command;
 use protocol::Answer;
 
-// Line k, at a place of the output.
+// Line k, at an offset of the output.
 fn line(
     text: &[u8],
     k: u32,
@@ -41,7 +41,7 @@ fn line(
     }
 }
 
-// All lines of the input from a place on, numbered from 1.
+// All lines of the input from an offset on, numbered from 1.
 pub fn lines(
     input: &[u8],
     from: usize,
@@ -58,12 +58,12 @@ pub fn lines(
 {
     let mut start = from;
     let mut k: u32 = 1;
-    let mut place = at;
+    let mut offset = at;
     while start < input.len() {
         let end = commands::line_end(input, start);
-        place = line(&input[start..end], k, n, nodes, channels, out, place);
+        offset = line(&input[start..end], k, n, nodes, channels, out, offset);
         start = end + 1;
         k += 1;
     }
-    place
+    offset
 }

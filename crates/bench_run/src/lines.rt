@@ -1,4 +1,4 @@
-// The lines of a listing, poured into the bytes from a place on; the place behind each.
+// The lines of a listing, poured into the bytes from an offset on; the offset behind each.
 ghost use mathlib.Core.List.{[], _∷_, _++_};
 ghost use mathlib.Core.Path.{_≡_};
 ghost use Prim.Native.Nat.{_+_, _^_, _≤_, _<_};

@@ -23,7 +23,7 @@ fn blank_channels() -> [u32; MOST_CHANNELS]
     [0; MOST_CHANNELS]
 }
 
-// The listing of a plot of n nodes in tables of the right sizes, whose event lines start at a place of the input.
+// The listing of a plot of n nodes in tables of the right sizes, whose event lines start at an offset of the input.
 fn with_tables(
     input: &[u8],
     from: usize,

@@ -25,11 +25,11 @@ pub fn stations(n: u32, nodes: &[u32], out: &mut [u8], at: usize) -> usize
     ensures { λ r. ⌜ (now (out .exit) ≡ poured (now (out .entry)) at (stationLinesOn n (tables (now (nodes .entry)) [])))
         × (r ≡ at + length (stationLinesOn n (tables (now (nodes .entry)) []))) ⌝ }
 {
-    let mut place = at;
+    let mut offset = at;
     let mut u: u32 = 1;
     while u <= n {
-        place = station(n, u, nodes, out, place);
+        offset = station(n, u, nodes, out, offset);
         u += 1;
     }
-    place
+    offset
 }

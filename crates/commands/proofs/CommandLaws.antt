@@ -68,7 +68,7 @@ module _ (kind u v : ℕ) where
 abbrev pub numberedOf : ℕ → List ℕ → SaidCommand
 numberedOf kind l = named kind (numberOf (take (toSpace l) l)) (numberOf (drop (suc (toSpace l)) l))
 
--- k is the place of the space, or the length where there is none: then the second number is missing
+-- k is the offset of the space, or the length where there is none: then the second number is missing
 module _ (kind : ℕ) (l : List ℕ) (k : ℕ) (at : k ≡ toSpace l) where
   pub numbered-end : k ≡ length l → saidMalformed ≡ numberedOf kind l
   unfolding named numberOf

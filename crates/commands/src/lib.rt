@@ -67,7 +67,7 @@ fn to_space(bytes: &[u8]) -> usize
     k
 }
 
-// Where the line that starts at a place ends: at a newline, or at the end of the input.
+// Where the line that starts at an offset ends: at a newline, or at the end of the input.
 pub fn line_end(input: &[u8], at: usize) -> usize
     requires { ⌜ at ≤ length (now input) ⌝ }
     ensures { λ r. ⌜ (r ≡ at + toNewline (drop at (now (input .entry)))) × (at ≤ r) × (r ≤ length (now (input .entry))) ⌝ }

@@ -116,30 +116,30 @@ length-front-le x =
 
 -- ---- steps of the code
 -- put_bytes: behind the first k bytes goes the next
-pub put-turn : (out₀ out : List ℕ) (at : ℕ) (bs : List ℕ) (place k : ℕ) → k < length bs → place ≡ at + k → out ≡ poured out₀ at (take k bs)
-    → poured out place (getD bs k 0 ∷ []) ≡ poured out₀ at (take (k + 1) bs)
-put-turn out₀ out at bs place k h e o =
-    let n : place ≡ at + length (take k bs) = simp length-take (omega arith) in
+pub put-turn : (out₀ out : List ℕ) (at : ℕ) (bs : List ℕ) (offset k : ℕ) → k < length bs → offset ≡ at + k → out ≡ poured out₀ at (take k bs)
+    → poured out offset (getD bs k 0 ∷ []) ≡ poured out₀ at (take (k + 1) bs)
+put-turn out₀ out at bs offset k h e o =
+    let n : offset ≡ at + length (take k bs) = simp length-take (omega arith) in
     ap₂ (λ (l : List ℕ) (p : ℕ). poured l p (getD bs k 0 ∷ [])) o n
     ∙ sym (poured-append out₀ at (take k bs) (getD bs k 0 ∷ []))
     ∙ sym (ap (poured out₀ at) (rw (add-one, take-suc bs k 0)))
 
 -- put_decimal: the digits before the last, where there are any, and the last behind them
-pub put-no-front : (out₀ : List ℕ) (at x : ℕ) (out : List ℕ) (place : ℕ) → x < 10 → out ≡ out₀ → place ≡ at
-    → (out ≡ poured out₀ at (front x)) × (place ≡ at + length (front x))
+pub put-no-front : (out₀ : List ℕ) (at x : ℕ) (out : List ℕ) (offset : ℕ) → x < 10 → out ≡ out₀ → offset ≡ at
+    → (out ≡ poured out₀ at (front x)) × (offset ≡ at + length (front x))
 unfolding poured
-put-no-front out₀ at x out place h o p = rw (front-one x h) (o, omega arith)
+put-no-front out₀ at x out offset h o p = rw (front-one x h) (o, omega arith)
 
-pub put-front : (out₀ : List ℕ) (at x : ℕ) (out : List ℕ) (place : ℕ) → 10 ≤ x
-    → out ≡ poured out₀ at (decimal (x / 10)) → place ≡ at + length (decimal (x / 10))
-    → (out ≡ poured out₀ at (front x)) × (place ≡ at + length (front x))
-put-front out₀ at x out place h o p = rw (front-more x h) (o, p)
+pub put-front : (out₀ : List ℕ) (at x : ℕ) (out : List ℕ) (offset : ℕ) → 10 ≤ x
+    → out ≡ poured out₀ at (decimal (x / 10)) → offset ≡ at + length (decimal (x / 10))
+    → (out ≡ poured out₀ at (front x)) × (offset ≡ at + length (front x))
+put-front out₀ at x out offset h o p = rw (front-more x h) (o, p)
 
-pub put-last : (out₀ : List ℕ) (at x : ℕ) (out : List ℕ) (place : ℕ) (done : List ℕ) (r : ℕ) → x < 2 ^ 32
-    → out ≡ poured out₀ at (front x) → place ≡ at + length (front x)
-    → done ≡ poured out place ((48 + x % 10) ∷ []) → r ≡ place + 1
+pub put-last : (out₀ : List ℕ) (at x : ℕ) (out : List ℕ) (offset : ℕ) (done : List ℕ) (r : ℕ) → x < 2 ^ 32
+    → out ≡ poured out₀ at (front x) → offset ≡ at + length (front x)
+    → done ≡ poured out offset ((48 + x % 10) ∷ []) → r ≡ offset + 1
     → (done ≡ poured out₀ at (decimal x)) × (r ≡ at + length (decimal x))
-put-last out₀ at x out place done r b o p d e =
+put-last out₀ at x out offset done r b o p d e =
     let q : done ≡ poured out₀ at (front x ++ ((48 + x % 10) ∷ [])) =
     d
     ∙ ap₂ (λ (l : List ℕ) (n : ℕ). poured l n ((48 + x % 10) ∷ [])) o p

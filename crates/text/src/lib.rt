@@ -1,4 +1,4 @@
-// Text in ASCII goes into lent bytes from a place on, as far as they reach; each function answers the place behind it.
+// Text in ASCII goes into lent bytes from an offset on, as far as they reach; each function answers the offset behind it.
 // So the same code counts how long a text is (no bytes lent) and writes it.
 ghost use mathlib.Core.List.{[], _∷_};
 ghost use mathlib.Core.Path.{_≡_};
@@ -23,13 +23,13 @@ pub fn put_bytes(out: &mut [u8], at: usize, bytes: &[u8]) -> usize
     requires { ⌜ at + length (now bytes) < 2 ^ 32 ⌝ }
     ensures { λ r. ⌜ (now (out .exit) ≡ poured (now (out .entry)) at (now (bytes .entry))) × (r ≡ at + length (now (bytes .entry))) ⌝ }
 {
-    let mut place = at;
+    let mut offset = at;
     let mut k: usize = 0;
     while k < bytes.len() {
-        place = put_byte(out, place, bytes[k]);
+        offset = put_byte(out, offset, bytes[k]);
         k += 1;
     }
-    place
+    offset
 }
 
 // A number in decimal: the number without its last digit, where it has more than one, and then that digit.
@@ -37,9 +37,9 @@ pub fn put_decimal(out: &mut [u8], at: usize, x: u32) -> usize
     requires { ⌜ at < 2 ^ 31 ⌝ }
     ensures { λ r. ⌜ (now (out .exit) ≡ poured (now (out .entry)) at (decimal x)) × (r ≡ at + length (decimal x)) ⌝ }
 {
-    let mut place = at;
+    let mut offset = at;
     if x >= 10 {
-        place = put_decimal(out, at, x / 10);
+        offset = put_decimal(out, at, x / 10);
     }
-    put_byte(out, place, 48 + (x % 10) as u8)
+    put_byte(out, offset, 48 + (x % 10) as u8)
 }

@@ -33,7 +33,7 @@ callees t = (below t, put-decimal.Post, put-byte.Asked, put-byte.Learnt)
 -- where the ways meet, the digits before the last are poured
 before-last : (t : ℕ) (c : lts.Joined1 (callees t) (given t) put-decimal.Post)
     → (c .if1 .out ≡ poured (c .before .before .args .out .now) (c .before .before .args .at) (front (c .before .before .args .x)))
-    × (c .if1 .place ≡ c .before .before .args .at + length (front (c .before .before .args .x)))
+    × (c .if1 .offset ≡ c .before .before .args .at + length (front (c .before .before .args .x)))
 before-last t c =
     let a = c .before .before .args in
     ⊎-elim

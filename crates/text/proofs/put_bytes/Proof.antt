@@ -1,4 +1,4 @@
--- `text::put_bytes` meets its contract. The invariant: the first k bytes are poured, and the place is behind them.
+-- `text::put_bytes` meets its contract. The invariant: the first k bytes are poured, and the offset is behind them.
 -- The measure is how many are left.
 use Prim.Native.Nat.{_+_, _-_, _≤_, _<_}
 use native.Mathlib.Omega.{arith}
@@ -11,11 +11,11 @@ use Rattle.text.proofs.put_bytes.Statement.{statement}
 use Rattle.text.proofs.put_bytes.Tie as tie
 
 abbrev Inv-loop : tie.InvT-loop
-Inv-loop out₀ at bytes place₀ k₀ out place k =
-    (k ≤ length bytes) × ((place ≡ at + k) × (out ≡ poured out₀ at (take k bytes)))
+Inv-loop out₀ at bytes offset₀ k₀ out offset k =
+    (k ≤ length bytes) × ((offset ≡ at + k) × (out ≡ poured out₀ at (take k bytes)))
 
 abbrev μ-loop : tie.MeasureT-loop
-μ-loop out₀ at bytes place₀ k₀ out place k = length bytes - k
+μ-loop out₀ at bytes offset₀ k₀ out offset k = length bytes - k
 
 loop-holds : tie.Need-loop-holds Inv-loop μ-loop
 unfolding poured
@@ -40,7 +40,7 @@ loop-again c =
     let p = c .before .before .put-byte in
     let bs = a .bytes .now in
     let h : l .k < length bs = omega arith in
-    let e = put-turn (a .out .now) (l .out) (a .at) bs (l .place) (l .k) h (l .inv .1 .0) (l .inv .1 .1) in
+    let e = put-turn (a .out .now) (l .out) (a .at) bs (l .offset) (l .k) h (l .inv .1 .0) (l .inv .1 .1) in
     (omega arith, (omega (arith, p .ensures .1), p .ensures .0 ∙ e))
 
 same-length : tie.Need-same-length Inv-loop μ-loop

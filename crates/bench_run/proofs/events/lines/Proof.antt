@@ -11,12 +11,12 @@ use Rattle.bench_run.proofs.events.lines.Statement.{statement}
 use Rattle.bench_run.proofs.events.lines.Tie as tie
 
 abbrev Inv-loop : tie.InvT-loop
-Inv-loop input from n nodes₀ channels₀ out₀ at start₀ k₀ place₀ nodes channels out start k place =
-    Running n (tables nodes₀ channels₀) input from out₀ at (tables nodes channels) out start k place × (length nodes ≡ length nodes₀)
+Inv-loop input from n nodes₀ channels₀ out₀ at start₀ k₀ offset₀ nodes channels out start k offset =
+    Running n (tables nodes₀ channels₀) input from out₀ at (tables nodes channels) out start k offset × (length nodes ≡ length nodes₀)
     × (length channels ≡ length channels₀)
 
 abbrev μ-loop : tie.MeasureT-loop
-μ-loop input from n nodes₀ channels₀ out₀ at start₀ k₀ place₀ nodes channels out start k place = length input + 1 - start
+μ-loop input from n nodes₀ channels₀ out₀ at start₀ k₀ offset₀ nodes channels out start k offset = length input + 1 - start
 
 loop-holds : tie.Need-loop-holds Inv-loop μ-loop
 loop-holds c = (run-start _ _ _ _ _ _, refl, refl)
@@ -60,7 +60,7 @@ loop-again c =
     let l = b13 .loop in
     let end = b11 .line-end .ensures in
     let x = c .before .before .before .before .before .before .line .ensures in (
-      run-next _ _ _ _ _ _ _ _ (l .start) (l .k) (l .place) (l .inv .0) (b12 .loop-test .taken) _
+      run-next _ _ _ _ _ _ _ _ (l .start) (l .k) (l .offset) (l .inv .0) (b12 .loop-test .taken) _
           (end .0) (end .1) _ refl _ _ _ (both (x .0) (x .1)) (x .2) (x .3),
       c .before .before .before .before .before .nodes .given ∙ l .inv .1,
       c .before .before .before .channels .given ∙ l .inv .2,
@@ -73,13 +73,13 @@ same-length-2 : tie.Need-same-length-2 Inv-loop μ-loop
 same-length-2 c = c .before .loop .inv .2
 
 same-length-3 : tie.Need-same-length-3 Inv-loop μ-loop
-same-length-3 c = run-length _ _ _ _ _ _ _ _ (c .before .loop .start) (c .before .loop .k) (c .before .loop .place) (c .before .loop .inv .0)
+same-length-3 c = run-length _ _ _ _ _ _ _ _ (c .before .loop .start) (c .before .loop .k) (c .before .loop .offset) (c .before .loop .inv .0)
 
 returns : tie.Need-returns Inv-loop μ-loop
 returns c =
     let l = c .before .loop in
     let s = c .before .before .before .before .before .before in
-    run-done _ _ _ _ _ _ _ _ (l .start) (l .k) (l .place) (l .inv .0) (omega arith) (s .pre .1) (s .pre .0)
+    run-done _ _ _ _ _ _ _ _ (l .start) (l .k) (l .offset) (l .inv .0) (omega arith) (s .pre .1) (s .pre .0)
 
 pub lines-spec : {M : Type 1} → statement M
 lines-spec =

@@ -18,7 +18,7 @@ returns c =
     let first = c .before .before .before .before .before .before .put-byte .ensures in
     let last = c .before .before .put-byte2 .ensures in
     let all = then (both (first .0) (first .1)) (both (last .0) (last .1)) in
-    (all .bytes, all .place)
+    (all .bytes, all .offset)
 
 pub put-letter-spec : {M : Type 1} → statement M
 put-letter-spec = tie.close (tie.spec put-byte-requires put-byte-requires-2 same-length returns)

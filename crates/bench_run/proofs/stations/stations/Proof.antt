@@ -14,10 +14,10 @@ use Rattle.bench_run.proofs.stations.stations.Statement.{statement}
 use Rattle.bench_run.proofs.stations.stations.Tie as tie
 
 abbrev Inv-loop : tie.InvT-loop
-Inv-loop n nodes out₀ at place₀ u₀ out place u = Printed n (stationLineOn n (tables nodes [])) out₀ at out place u
+Inv-loop n nodes out₀ at offset₀ u₀ out offset u = Printed n (stationLineOn n (tables nodes [])) out₀ at out offset u
 
 abbrev μ-loop : tie.MeasureT-loop
-μ-loop n nodes out₀ at place₀ u₀ out place u = suc n - u
+μ-loop n nodes out₀ at offset₀ u₀ out offset u = suc n - u
 
 loop-holds : tie.Need-loop-holds Inv-loop μ-loop
 loop-holds c = printed-none _ _ _ _

@@ -97,20 +97,24 @@ loop-again c =
     let q = b .before .before .loop .inv in
     let more = b .before .loop-test .taken in
     let inside = b .contains .ensures in
+    let level = b .before .before .before .before .args .level in
     ⊎-elim
     (λ a.
     let f : SFits w32 (a .6 .result) = search needs in
     let g : SFits w32 (a .1 .result .delta) = search needs in
-    took _ _ _ _ q more (rw (← inside, a .0 .taken, ← a .1 .ensures .0, ← a .2 .ensures, a .3 .taken)) (a .7)
+    let alike : same (levelKey (a .1 .result .level)) (levelKey level) ≡ true = sym (a .2 .ensures) ∙ a .3 .taken in
+    took _ _ _ _ q more (rw (← inside, a .0 .taken, ← a .1 .ensures .0, alike)) (a .7)
     (ap (toZ w32) (a .8) ∙ toZ-ofZ f ∙ a .6 .ensures ∙ rw (toZ-ofZ g, a .1 .ensures .0, a .4 .taken)))
     (⊎-elim
     (λ a.
     let g : SFits w32 (a .1 .result .delta) = search needs in
-    took _ _ _ _ q more (rw (← inside, a .0 .taken, ← a .1 .ensures .0, ← a .2 .ensures, a .3 .taken)) (a .6)
+    let alike : same (levelKey (a .1 .result .level)) (levelKey level) ≡ true = sym (a .2 .ensures) ∙ a .3 .taken in
+    took _ _ _ _ q more (rw (← inside, a .0 .taken, ← a .1 .ensures .0, alike)) (a .6)
     (ap (toZ w32) (a .7) ∙ toZ-ofZ g ∙ rw (a .1 .ensures .0, a .4 .left)))
     (⊎-elim
     (λ a.
-    passed _ _ _ _ q more (rw (← inside, a .0 .taken, ← a .1 .ensures .0, ← a .2 .ensures, a .3 .left)) (a .4) (ap (toZ w32) (a .5)))
+    let other : same (levelKey (a .1 .result .level)) (levelKey level) ≡ false = sym (a .2 .ensures) ∙ a .3 .left in
+    passed _ _ _ _ q more (rw (← inside, a .0 .taken, ← a .1 .ensures .0, other)) (a .4) (ap (toZ w32) (a .5)))
     (λ a. passed _ _ _ _ q more (rw (← inside, a .0 .left)) (a .1) (ap (toZ w32) (a .2)))))
     (c .if1 .came)
 
