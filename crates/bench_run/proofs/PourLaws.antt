@@ -12,7 +12,7 @@ use Rattle.text.specs.inner.Poured.{poured}
 use Rattle.text.proofs.TextLaws.{poured-append, length-decimal-le}
 use Rattle.bench_run.specs.Listing.{eventLine, saidLine, stationLine}
 
--- what was poured from a offset on, and the offset behind it
+-- what was poured from an offset on, and the offset behind it
 pub record Poured (out : List ℕ) (at : ℕ) (text after : List ℕ) (behind : ℕ) : Type 0 where
   pub bytes : after ≡ poured out at text
   pub offset : behind ≡ at + length text
