@@ -76,7 +76,8 @@ pub examined-good : (n : ℕ) (l : List ℕ) → n ≤ 16 → examined headerLen
 unfolding examined afterWalk endsAt
 examined-good n l few zero = go (walk headerLength depthWidth n l) refl zero
   where
-    good : (q : ℕ) → walk headerLength depthWidth n l ≡ At q → Choice (endsAt l q) → cond (endsAt l q) (firstFault n (tablesIn headerLength depthWidth n l)) (why 12 0 0) .number ≡ 0
+    good : (q : ℕ) → walk headerLength depthWidth n l ≡ At q → Choice (endsAt l q)
+        → cond (endsAt l q) (firstFault n (tablesIn headerLength depthWidth n l)) (why 12 0 0) .number ≡ 0
         → ExaminedGood n l
     good q w (no! e) z = let y : _≡_ {A = ℕ} 12 0 = rw e at z in absurd (omega arith)
     good q w (yes! e) z =

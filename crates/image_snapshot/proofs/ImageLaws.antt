@@ -85,7 +85,8 @@ module _ (n : ℕ) (low : 1 ≤ n) (few : n ≤ 16) (p : Network) (holds : sound
       unused : (i : ℕ) → i < n → recordsIn headerLength depthWidth n (unpacked (image n p)) .channel (suc i) (suc i) ≡ recordsOf n p .channel (suc i) (suc i)
       unused i l = unfold recordsIn recordsOf in rw (eq-eqb (suc i) (suc i) refl, diagonal n p fits (suc i))
 
-  few-at : (i j : ℕ) → i < n → j < n → (suc i ≡ suc j → ⊥) → fieldIn (unpacked (image n p)) (channelPlace headerLength depthWidth n (unpacked (image n p)) (suc i) (suc j)) 4 ≤ 8
+  few-at : (i j : ℕ) → i < n → j < n → (suc i ≡ suc j → ⊥)
+      → fieldIn (unpacked (image n p)) (channelPlace headerLength depthWidth n (unpacked (image n p)) (suc i) (suc j)) 4 ≤ 8
   unfolding recordsIn recordsOf channelFrom
   few-at i j l m d =
       let q = channelPlace headerLength depthWidth n (unpacked (image n p)) (suc i) (suc j) in

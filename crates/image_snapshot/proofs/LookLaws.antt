@@ -106,10 +106,12 @@ module _ (h n : ℕ) (l : List ℕ) (k place : ℕ) (row : List ℕ) where
     at-place at e q = rw (node-passes n k node, eq-eqb place (nodePlace h 16 n k) (q ∙ e), q)
 
 -- the record of node k stands inside an image that was walked
-pub record-inside : (xs : List ℕ) (n k at : ℕ) → Walkable headerLength depthWidth n (unpacked xs) → Node n k → at ≡ nodePlace headerLength depthWidth n k → Inside xs at (nodeWidth 16 n)
+pub record-inside : (xs : List ℕ) (n k at : ℕ) → Walkable headerLength depthWidth n (unpacked xs) → Node n k
+    → at ≡ nodePlace headerLength depthWidth n k → Inside xs at (nodeWidth 16 n)
 record-inside xs n k at w node e =
     let z : suc (k - 1) ≡ k = omega (arith, node .low) in
-    let a : nodePlace headerLength depthWidth n k + nodeWidth 16 n ≤ channelsPlace headerLength depthWidth n = rw z at (node-in headerLength depthWidth n (k - 1) (omega (arith, node .low, node .high))) in
+    let a : nodePlace headerLength depthWidth n k + nodeWidth 16 n ≤ channelsPlace headerLength depthWidth n =
+    rw z at (node-in headerLength depthWidth n (k - 1) (omega (arith, node .low, node .high))) in
     let b = start-in headerLength depthWidth n (unpacked xs) in
     record {
       small = omega (arith, a, b, w .small, e);

@@ -43,9 +43,12 @@ rowLooked row =
     outcome (accepted (record { clock = record { 0 = clockIn row }; neighbors = neighborsIn row; forming = formingIn row })) (drop rowHead row)
 
 -- the record at a node's place is that node's row of the image's tables
-row-looked : (n : ℕ) (l : List ℕ) (k : ℕ) → Node n k → recordIn n l (nodePlace headerLength depthWidth n k) ≡ rowLooked (nodeOf n k (tablesIn headerLength depthWidth n l .nodes))
+row-looked : (n : ℕ) (l : List ℕ) (k : ℕ) → Node n k
+    → recordIn n l (nodePlace headerLength depthWidth n k) ≡ rowLooked (nodeOf n k (tablesIn headerLength depthWidth n l .nodes))
 unfolding recordIn rowFrom tablesIn
-row-looked n l k node = ap rowLooked (row-read headerLength depthWidth n l k ∙ sym (node-from n (recordsIn headerLength depthWidth n l) (records-shaped headerLength depthWidth n l) k node))
+row-looked n l k node =
+    ap rowLooked (row-read headerLength depthWidth n l k
+    ∙ sym (node-from n (recordsIn headerLength depthWidth n l) (records-shaped headerLength depthWidth n l) k node))
 
 module _ (n : ℕ) (low : 1 ≤ n) (few : n ≤ 16) (p : Network) (holds : sound n p ≡ true) (inside : restrict n p ≡ p)
     (k : ℕ) (node : Node n k) (row : List ℕ) (wide : length row ≡ n * heightSize) where

@@ -57,7 +57,8 @@ module _ (xs row : List ℕ) (ok : Readable xs row) (k : ℕ) where
 
   module _ (node : Node (field xs 16 5) k) where
     -- accepted where the record starts: header length + (k − 1)(64 + 96 n)
-    pub own-place : readNodeOn xs k (nodePlace headerLength depthWidth (field xs 16 5) k) row ≡ recordIn (field xs 16 5) (unpacked xs) (nodePlace headerLength depthWidth (field xs 16 5) k)
+    pub own-place : readNodeOn xs k (nodePlace headerLength depthWidth (field xs 16 5) k) row
+        ≡ recordIn (field xs 16 5) (unpacked xs) (nodePlace headerLength depthWidth (field xs 16 5) k)
     unfolding nodePlaced
     own-place =
         placed (nodePlace headerLength depthWidth (field xs 16 5) k)
@@ -91,7 +92,8 @@ node-good xs k place row zero = go (choice (eqb (headerOf xs .why .number) 0)) z
     l : List ℕ
     l = unpacked xs
 
-    at : HeaderGood xs → length row ≡ n * heightSize → examined headerLength depthWidth n l .number ≡ 0 → Choice (isNode n k) → Choice (eqb place (nodePlace headerLength depthWidth n k))
+    at : HeaderGood xs → length row ≡ n * heightSize → examined headerLength depthWidth n l .number ≡ 0
+        → Choice (isNode n k) → Choice (eqb place (nodePlace headerLength depthWidth n k))
         → nodePlaced 32 n l k place row .said .why .number ≡ 0 → NodeGood xs k place row
     at h w c (no! e) q z = let y : _≡_ {A = ℕ} 3 0 = rw e at z in absurd (omega arith)
     at h w c (yes! e) (no! q) z = let y : _≡_ {A = ℕ} 13 0 = rw (e, q) at z in absurd (omega arith)

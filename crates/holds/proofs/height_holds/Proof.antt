@@ -23,7 +23,8 @@ returns-2 c =
     let s = c .before .before .before .before .before in
     let a = s .args in
     let f : SFits w32 (a .h .delta) = search needs in
-    let level : levelHolds (a .n) (a .h .level) ≡ true = sym (c .before .before .before .before .level-holds .ensures) ∙ not-false _ (c .before .before .before .if1 .left) in
+    let level : levelHolds (a .n) (a .h .level) ≡ true =
+    sym (c .before .before .before .before .level-holds .ensures) ∙ not-false _ (c .before .before .before .if1 .left) in
     let delta : deltaHolds (a .h .delta) ≡ false = sym (rw (toZ-ofZ f) at (c .before .delta-holds .ensures)) ∙ not-true _ (c .if2 .taken) in
     rw (level, delta) at (height-test (a .n) (a .k) (a .h) (s .pre))
 
@@ -32,7 +33,8 @@ returns-3 c =
     let s = c .before .before .before .before .before .before in
     let a = s .args in
     let f : SFits w32 (a .h .delta) = search needs in
-    let level : levelHolds (a .n) (a .h .level) ≡ true = sym (c .before .before .before .before .before .level-holds .ensures) ∙ not-false _ (c .before .before .before .before .if1 .left) in
+    let level : levelHolds (a .n) (a .h .level) ≡ true =
+    sym (c .before .before .before .before .before .level-holds .ensures) ∙ not-false _ (c .before .before .before .before .if1 .left) in
     let delta : deltaHolds (a .h .delta) ≡ true = sym (rw (toZ-ofZ f) at (c .before .before .delta-holds .ensures)) ∙ not-false _ (c .before .if2 .left) in
     rw (level, delta) at (height-test (a .n) (a .k) (a .h) (s .pre))
 

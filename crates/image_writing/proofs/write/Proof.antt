@@ -22,10 +22,14 @@ node-requires : tie.Need-node-requires
 node-requires c κs = c .before .before .before .before .before .before .before .before .before .before .before .pre .0 .size .few
 
 mul-start : tie.Need-mul-start
-mul-start c = let s = c .before .before .before .before .before .before .before .before .before .before .before .before in rw (c .node .ensures) (omega (arith, nodes-small 16 (s .args .n) (omega arith) (s .pre .0 .size .few)))
+mul-start c =
+    let s = c .before .before .before .before .before .before .before .before .before .before .before .before in
+    rw (c .node .ensures) (omega (arith, nodes-small 16 (s .args .n) (omega arith) (s .pre .0 .size .few)))
 
 add-start : tie.Need-add-start
-add-start c = let s = c .before .before .before .before .before .before .before .before .before .before .before .before in rw (c .node .ensures) (omega (arith, nodes-small 16 (s .args .n) (omega arith) (s .pre .0 .size .few)))
+add-start c =
+    let s = c .before .before .before .before .before .before .before .before .before .before .before .before in
+    rw (c .node .ensures) (omega (arith, nodes-small 16 (s .args .n) (omega arith) (s .pre .0 .size .few)))
 
 put-cells-requires : tie.Need-put-cells-requires
 put-cells-requires c κs =

@@ -14,7 +14,8 @@ use Rattle.decision.proofs.rule.of_equal_pairs.Tie as tie
 returns : tie.Need-returns
 unfolding equalPairsRule
 returns c = let a = c .before .before .before .args in
-    let idle : sink (a .n) (member (a .«set»)) (seen (a .row .now) (a .v) (a .view)) (a .u) ≡ false = sym (c .before .is-sink .ensures) ∙ not-true _ (c .if1 .taken) in
+    let idle : sink (a .n) (member (a .«set»)) (seen (a .row .now) (a .v) (a .view)) (a .u) ≡ false =
+    sym (c .before .is-sink .ensures) ∙ not-true _ (c .if1 .taken) in
     rw idle
 
 returns-2 : tie.Need-returns-2

@@ -12,7 +12,8 @@ use Rattle.image.proofs.cells.put_cell.Tie as tie
 returns : tie.Need-returns
 returns c =
     let s = c .before .before .before .before .before .before .before .before .before in
-    (cell-empty (s .args .depth) (s .args .cell .now) (s .args .buf .now) (s .args .at) (c .if1 .taken) (c .before .before .before .put .ensures), rw (c .if1 .taken) (omega arith))
+    let count = c .before .before .before .put .ensures in
+    (cell-empty (s .args .depth) (s .args .cell .now) (s .args .buf .now) (s .args .at) (c .if1 .taken) count, rw (c .if1 .taken) (omega arith))
 
 put-records-requires : tie.Need-put-records-requires
 put-records-requires c κs =
