@@ -14,7 +14,7 @@ ghost use Rattle.image.specs.inner.Parts.{Inside, Depth, cellBits, cellF
 use super::widths;
 use tables::MESSAGE_SIZE;
 
-// A cell's count and messages go to a bit place; the place behind them.
+// A cell's count and messages go to a bit place; the place behind them. Most channels are empty: their count is put and no run of records is begun.
 pub fn put_cell(buf: &mut [u8], at: usize, depth: u8, cell: &[u32]) -> usize
     requires { ⌜ Depth depth × (length (now cell) ≡ cellWidth) × (count (now cell) ≤ capacity) × Inside (now buf) at (4 + count (now cell) * messageWidth depth) ⌝ }
     ensures { λ r. ⌜ (now (buf .exit) ≡ written (now (buf .entry)) at (cellBits depth (now (cell .entry))))
@@ -30,7 +30,7 @@ pub fn put_cell(buf: &mut [u8], at: usize, depth: u8, cell: &[u32]) -> usize
     at + 4 + c * w
 }
 
-// c messages from a bit place, then zero words.
+// c messages from a bit place, then zero words; where there are none, no run of records is begun.
 fn get_messages(bytes: &[u8], at: usize, depth: u8, c: usize, words: &mut [u32])
     requires { ⌜ Depth depth × (c ≤ capacity) × (length (now words) ≡ capacity * messageSize) × Inside (now bytes) at (c * messageWidth depth) ⌝ }
     ensures { λ _. ⌜ now (words .exit) ≡ slotWords capacity (messagesOf depth c (drop at (unpacked (now (bytes .entry))))) ⌝ }

@@ -43,7 +43,8 @@ fn start(fields: Fields, k: u32) -> usize
 
 // 3, 13, or the record where a reader stands at that place; the reader refuses none that is inside.
 fn placed(image: &[u8], fields: Fields, k: u32, place: u64, row: &mut [u32]) -> NodeRead
-    requires { ⌜ (fields .length ≡ headerLength) × (fields .n ≤ 16) × (length (now row) ≡ fields .n * heightSize) × Walkable headerLength depthWidth (fields .n) (unpacked (now image)) ⌝ }
+    requires { ⌜ (fields .length ≡ headerLength) × (fields .n ≤ 16) × (length (now row) ≡ fields .n * heightSize)
+        × Walkable headerLength depthWidth (fields .n) (unpacked (now image)) ⌝ }
     ensures { λ r. ⌜ outcome (saidNode r) (now (row .exit))
         ≡ nodePlaced (fields .length) (fields .n) (unpacked (now (image .entry))) k place (now (row .entry)) ⌝ }
 {

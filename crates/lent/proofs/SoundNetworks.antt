@@ -215,7 +215,8 @@ module _ (n : ℕ) (p : Network) (ok : Storable n p) (holds : sound n p ≡ true
       row = rowWords n (recordsOf n p) u
 
       go : (u ≡ v) ⊎ (u ≡ v → ⊥) → cond (eqb u v) (ownHolds n p u) (viewHolds n p u v && channelHolds n p u v) ≡ true
-          → cond (eqb u v) (ownSound n u row (cellWords (map messageWords (p .channel u v)))) (viewSound n v row && channelSound n u v row (cellWords (map messageWords (p .channel u v)))) ≡ true
+          → cond (eqb u v) (ownSound n u row (cellWords (map messageWords (p .channel u v))))
+          (viewSound n v row && channelSound n u v row (cellWords (map messageWords (p .channel u v)))) ≡ true
       go (inl e) h = rw (eq-eqb u v e, ← e) (own-back n p ok u a (rw (eq-eqb u v e) at h))
       go (inr d) h =
           let q : (viewHolds n p u v && channelHolds n p u v) ≡ true = rw (ne-eqb u v d) at h in

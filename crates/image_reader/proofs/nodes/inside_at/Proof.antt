@@ -24,7 +24,8 @@ same-length c = search needs
 
 returns-2 : tie.Need-returns-2
 returns-2 c =
-    node-read _ _ _ _ (rw (c .before .before .before .before .before .before .node .ensures) at (c .before .before .before .before .before .inside .ensures)) (c .before .before .before .before .if1 .left)
+    let fits = rw (c .before .before .before .before .before .before .node .ensures) at (c .before .before .before .before .before .inside .ensures) in
+    node-read _ _ _ _ fits (c .before .before .before .before .if1 .left)
     (c .before .before .record-from .ensures)
 
 pub inside-at-spec : {M : Type 1} → statement M
