@@ -1,6 +1,7 @@
--- The structs of include/election.h, read as what the calls say (crates protocol, lent, image_snapshot).
--- Field by field; `sent` of an event's answer is not in what it says: it is the ones of the set.
+-- The structs of include/election.h, read as what the calls say (crates protocol, lent, groups, image_snapshot).
+-- Field by field. `sent` of an event's answer is not in what it says: it is the ones of the set. Nor is `collector` of a group's.
 use Prim.Native.Nat.{ℕ}
+use Rattle.groups.specs.declared.Group.{Group}
 use Rattle.image_reader.specs.declared.NodeRecord.{NodeRecord}
 use Rattle.protocol.specs.Answer.{Said}
 use Rattle.refusal.specs.Outcome.{Answered}
@@ -8,8 +9,10 @@ use Rattle.refusal.specs.Refusal.{why}
 use Rattle.refusal.specs.declared.Why.{Why}
 use Rattle.abi.specs.declared.AnswerReport.{AnswerReport}
 use Rattle.abi.specs.declared.CheckReport.{CheckReport}
+use Rattle.abi.specs.declared.GroupReport.{GroupReport}
 use Rattle.abi.specs.declared.NodeReport.{NodeReport}
 use Rattle.abi.specs.declared.SaveReport.{SaveReport}
+use Rattle.abi.specs.declared.ValueReport.{ValueReport}
 
 abbrev pub saidReport : AnswerReport → Said
 saidReport a = record {
@@ -32,4 +35,13 @@ abbrev pub saidNodeReport : NodeReport → Answered NodeRecord
 saidNodeReport a = record {
   why = why (a .number) (a .«fault_at») (a .«fault_with»);
   value = record { clock = record { 0 = a .clock }; neighbors = a .linked; forming = a .forming };
+}
+
+abbrev pub saidValueReport : ValueReport → Answered ℕ
+saidValueReport a = record { why = why (a .number) (a .«fault_at») (a .«fault_with»); value = a .value }
+
+abbrev pub saidGroupReport : GroupReport → Answered Group
+saidGroupReport a = record {
+  why = why (a .number) (a .«fault_at») (a .«fault_with»);
+  value = record { members = a .members; collectors = a .collectors };
 }

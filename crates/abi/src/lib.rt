@@ -1,8 +1,13 @@
-// The calls for C and Rust (include/election.h): those of `lent`, `election` and `image_snapshot`, with a plain struct as the answer.
+// The calls for C and Rust (include/election.h): those of `lent`, `election`, `groups` and `image_snapshot`, with a plain struct as the answer.
 // Every call takes anything; its contract is the equation of the call that it makes.
 ghost use mathlib.Core.Path.{_≡_};
 ghost use lib.Count.{ones};
 ghost use Rattle.election.specs.StepOn.{stepOn};
+ghost use Rattle.groups.specs.Group.{groupOn};
+ghost use Rattle.groups.specs.Groups.{theOne};
+ghost use Rattle.groups.specs.Heads.{headsOn};
+ghost use Rattle.groups.specs.Quiet.{quietOn};
+ghost use Rattle.image_snapshot.specs.Count.{countOn};
 ghost use Rattle.image_snapshot.specs.ReadNode.{readNodeOn};
 ghost use Rattle.image_snapshot.specs.Restore.{restoreOn};
 ghost use Rattle.image_snapshot.specs.Save.{saveOn};
@@ -11,7 +16,7 @@ ghost use Rattle.lent.specs.Fresh.{freshOn};
 ghost use Rattle.protocol.specs.Step.{up, down, receive};
 ghost use Rattle.refusal.specs.Outcome.{outcome};
 ghost use Rattle.tables.specs.Tables.{atEntry, atExit};
-ghost use Rattle.abi.specs.Report.{saidReport, saidCheckReport, saidSaveReport, saidNodeReport};
+ghost use Rattle.abi.specs.Report.{saidReport, saidCheckReport, saidSaveReport, saidNodeReport, saidValueReport, saidGroupReport};
 ghost use Rattle.abi.specs.Sizes.{isSize, nodesLength, channelsLength, rowLength, imageLength};
 
 mod reports;
@@ -57,6 +62,26 @@ pub struct NodeReport {
     pub clock: u32,
     pub linked: u32,
     pub forming: u32,
+}
+
+// What a call answers that looks for one number: election_value.
+#[repr(C)]
+pub struct ValueReport {
+    pub number: u32,
+    pub fault_at: u32,
+    pub fault_with: u32,
+    pub value: u32,
+}
+
+// What a look at one node's group answers: election_group.
+#[repr(C)]
+pub struct GroupReport {
+    pub number: u32,
+    pub fault_at: u32,
+    pub fault_with: u32,
+    pub members: u32,
+    pub collectors: u32,
+    pub collector: u32,
 }
 
 // ---- how much to lend
@@ -182,7 +207,42 @@ pub extern "C" fn election_receive(
     reports::of_answer(election::receive(n, from, to, nodes, channels))
 }
 
+// ---- looks at a whole network
+
+// 1 if the network is quiet, 0 if not.
+#[no_mangle]
+pub extern "C" fn election_quiet(n: u32, nodes: &[u32], channels: &[u32]) -> ValueReport
+    ensures { λ r. ⌜ saidValueReport r ≡ quietOn n (atEntry nodes channels) ⌝ }
+{
+    reports::of_quiet(groups::is_quiet(n, nodes, channels))
+}
+
+// The lowest members of all groups, as a set.
+#[no_mangle]
+pub extern "C" fn election_groups(n: u32, nodes: &[u32], channels: &[u32]) -> ValueReport
+    ensures { λ r. ⌜ saidValueReport r ≡ headsOn n (atEntry nodes channels) ⌝ }
+{
+    reports::of_heads(groups::heads(n, nodes, channels))
+}
+
+// The group of node u and its collectors.
+#[no_mangle]
+pub extern "C" fn election_group_of(n: u32, u: u32, nodes: &[u32], channels: &[u32]) -> GroupReport
+    ensures { λ r. ⌜ saidGroupReport r ≡ groupOn n u (atEntry nodes channels) ⌝ }
+    ensures { λ r. ⌜ r .collector ≡ theOne (r .collectors) ⌝ }
+{
+    reports::of_group(groups::group_of(n, u, nodes, channels))
+}
+
 // ---- images
+
+// How many nodes the header of an image names.
+#[no_mangle]
+pub extern "C" fn election_image_stations(image: &[u8]) -> ValueReport
+    ensures { λ r. ⌜ saidValueReport r ≡ countOn (now (image .entry)) ⌝ }
+{
+    reports::of_count(image_snapshot::count(image))
+}
 
 // The image of the network goes to the front of `out`.
 #[no_mangle]

@@ -4,19 +4,32 @@ ghost use mathlib.Core.Path.{_≡_};
 ghost use lib.Count.{ones};
 ghost use Rattle.height.specs.Height.{zeroLevel};
 ghost use Rattle.image_reader.specs.Record.{saidNode, noNode};
+ghost use Rattle.groups.specs.Group.{saidGroup, noGroup};
+ghost use Rattle.groups.specs.Groups.{theOne};
+ghost use Rattle.groups.specs.Heads.{saidHeads};
+ghost use Rattle.groups.specs.Quiet.{saidQuiet};
+ghost use Rattle.image_snapshot.specs.Count.{saidCount};
 ghost use Rattle.image_snapshot.specs.Save.{saidSave};
+ghost use Rattle.nodeset.specs.NodeSet.{digit};
 ghost use Rattle.lent.specs.Check.{saidCheck};
 ghost use Rattle.protocol.specs.Answer.{said, saidRule, carriedOut, saidRefused};
 ghost use Rattle.refusal.specs.Refusal.{why};
-ghost use Rattle.abi.specs.Report.{saidReport, saidCheckReport, saidSaveReport, saidNodeReport};
+ghost use Rattle.abi.specs.Report.{saidReport, saidCheckReport, saidSaveReport, saidNodeReport, saidValueReport, saidGroupReport};
 use super::AnswerReport;
 use super::CheckReport;
+use super::GroupReport;
 use super::NodeReport;
 use super::SaveReport;
+use super::ValueReport;
+use groups::Group;
+use groups::GroupRead;
+use groups::HeadsRead;
+use groups::QuietRead;
 use height::ReferenceLevel;
 use height::Time;
 use image_reader::NodeRead;
 use image_reader::NodeRecord;
+use image_snapshot::CountRead;
 use image_snapshot::Saved;
 use lent::Checked;
 use protocol::Answer;
@@ -178,5 +191,88 @@ pub fn of_node(answer: NodeRead) -> NodeReport
     match answer {
         NodeRead::Found(node) => looked(accepted(), node),
         NodeRead::Refused(why) => looked(refusal::said(why), no_node()),
+    }
+}
+
+// ---- one number
+
+fn valued(w: Why, value: u32) -> ValueReport
+    ensures { λ r. ⌜ saidValueReport r ≡ record { why = w; value = value } ⌝ }
+{
+    ValueReport {
+        number: w.number,
+        fault_at: w.u,
+        fault_with: w.v,
+        value,
+    }
+}
+
+// 1 for true, 0 for false.
+fn digit(b: bool) -> u32
+    ensures { λ r. ⌜ r ≡ digit b ⌝ }
+{
+    if b {
+        return 1;
+    }
+    0
+}
+
+pub fn of_quiet(answer: QuietRead) -> ValueReport
+    ensures { λ r. ⌜ saidValueReport r ≡ saidQuiet answer ⌝ }
+{
+    match answer {
+        QuietRead::Found(quiet) => valued(accepted(), digit(quiet)),
+        QuietRead::Refused(why) => valued(refusal::said(why), 0),
+    }
+}
+
+pub fn of_heads(answer: HeadsRead) -> ValueReport
+    ensures { λ r. ⌜ saidValueReport r ≡ saidHeads answer ⌝ }
+{
+    match answer {
+        HeadsRead::Found(set) => valued(accepted(), set as u32),
+        HeadsRead::Refused(why) => valued(refusal::said(why), 0),
+    }
+}
+
+pub fn of_count(answer: CountRead) -> ValueReport
+    ensures { λ r. ⌜ saidValueReport r ≡ saidCount answer ⌝ }
+{
+    match answer {
+        CountRead::Found(n) => valued(accepted(), n),
+        CountRead::Refused(why) => valued(refusal::said(why), 0),
+    }
+}
+
+// ---- one group
+
+fn no_group() -> Group
+    ensures { λ r. ⌜ r ≡ noGroup ⌝ }
+{
+    Group {
+        members: 0,
+        collectors: 0,
+    }
+}
+
+fn grouped(w: Why, group: Group) -> GroupReport
+    ensures { λ r. ⌜ (saidGroupReport r ≡ record { why = w; value = group }) × (r .collector ≡ theOne (r .collectors)) ⌝ }
+{
+    GroupReport {
+        number: w.number,
+        fault_at: w.u,
+        fault_with: w.v,
+        members: group.members as u32,
+        collectors: group.collectors as u32,
+        collector: groups::the_one(group.collectors),
+    }
+}
+
+pub fn of_group(answer: GroupRead) -> GroupReport
+    ensures { λ r. ⌜ (saidGroupReport r ≡ saidGroup answer) × (r .collector ≡ theOne (r .collectors)) ⌝ }
+{
+    match answer {
+        GroupRead::Found(group) => grouped(accepted(), group),
+        GroupRead::Refused(why) => grouped(refusal::said(why), no_group()),
     }
 }

@@ -43,7 +43,7 @@ pub fn letter(answer: Answer) -> u8
     }
 }
 
-// The number of messages sent: the count of ones in the set sent to.
+// How many messages an event sent: the ones of the set it names.
 pub fn sent(answer: Answer) -> u32
     ensures { λ r. ⌜ r ≡ ones (said answer .value .sentTo) ⌝ }
 {

@@ -2,9 +2,9 @@
 -- Every crate's proofs go by cases with `choice` and `equal?`, and end an impossible case with `clash`.
 use Prim.Native.Nat.{ℕ}
 use native.Mathlib.Omega.{arith}
-use mathlib.Core.Bool.{Bool, true, false, _&&_, _||_}
+use mathlib.Core.Bool.{Bool, true, false, _&&_, _||_, Bool·beq}
 use mathlib.Core.Logic.{_⊎_, inl, inr}
-use mathlib.Core.Path.{_≡_, refl}
+use mathlib.Core.Path.{_≡_, refl, sym}
 use lib.Dec.{eqb}
 use borrow.Author.Tests.{eqb-true, eqb-false}
 
@@ -59,3 +59,22 @@ both-equal a u b v e = (eqb-true a u (and-left (eqb a u) (eqb b v) e), eqb-true 
 
 pub not-both : (a u b v : ℕ) → (a ≡ u → b ≡ v → ⊥) → (eqb a u && eqb b v) ≡ false
 not-both a u b v h = not-true-is-false (eqb a u && eqb b v) (λ e. let q = both-equal a u b v e in h (q .0) (q .1))
+
+-- ---- two tests that are the same
+
+pub iff : (a b : Bool) → (a ≡ true → b ≡ true) → (b ≡ true → a ≡ true) → a ≡ b
+iff true b f g = sym (f refl)
+iff false true f g = g refl
+iff false false f g = refl
+
+pub same-bool : (a b : Bool) → Bool·beq a b ≡ true → a ≡ b
+same-bool true true e = refl
+same-bool true false e = clash e refl
+same-bool false true e = clash e refl
+same-bool false false e = refl
+
+pub beq-same : (a b : Bool) → a ≡ b → Bool·beq a b ≡ true
+beq-same true true e = refl
+beq-same true false e = clash refl e
+beq-same false true e = clash refl (sym e)
+beq-same false false e = refl

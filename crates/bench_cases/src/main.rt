@@ -1,5 +1,6 @@
 // Runs the bench on each file of data/: every rule; every refusal that a bench line can meet; malformed lines of each kind; nodes that
-// block each other, and the way out; inputs without a last newline, alone, empty, with a bad first line, of 65,536 and 65,537 bytes.
+// block each other, and the way out; a network that refuses every event; inputs without a last newline, alone, empty, with a bad first
+// line, of 65,536 and 65,537 bytes.
 
 fn case(path: &[u8]) {
     let file = os::open_read(path);
@@ -32,6 +33,7 @@ fn main() {
     case(b"refusals");
     case(b"malformed");
     case(b"blocked");
+    case(b"dead");
     case(b"no_newline");
     case(b"head_alone");
     case(b"empty");

@@ -127,7 +127,7 @@ gathered-more ws bs k h =
     ∙ ap (λ (t : List ℕ). gathered t bs) (take-suc ws k 0 h)
     ∙ gathered-append (take k ws) (getD ws k 0 ∷ []) bs
 
--- each field starts where the one before it ends, inside the record
+-- fields follow one another without a gap, inside the record
 pub total-take-le : (ws : List ℕ) (k : ℕ) → total (take k ws) ≤ total ws
 total-take-le ws k = omega (arith, total-append (take k ws) (drop k ws), ap total (take-append-drop k ws))
 

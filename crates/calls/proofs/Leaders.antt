@@ -2,13 +2,13 @@
 -- And quiet read off the network is quiescent by the history. Assumes a good state (Good.antt).
 use Prim.Native.Nat.{ℕ}
 use native.Mathlib.Omega.{arith}
-use mathlib.Core.Bool.{Bool, true, false, Bool·beq}
+use mathlib.Core.Bool.{true}
 use mathlib.Core.List.{[]}
 use mathlib.Core.Logic.{inl, inr}
 use mathlib.Core.Path.{_≡_, refl, sym, ap, _∙_, fun-ext}
 use lib.ListN.{length}
 use Rattle.basics.proofs.FunctionsLaws.{every-pair-at, every-pair-all}
-use Rattle.basics.proofs.Tests.{clash, SameOrNot, equal?, and-left, and-right}
+use Rattle.basics.proofs.Tests.{SameOrNot, equal?, and-left, and-right, same-bool, beq-same}
 use Rattle.protocol.specs.Holds.{isEmpty}
 use Rattle.protocol.specs.Network.{Node, Two, Network, upTo, own}
 use Rattle.protocol.specs.Quiet.{pairQuiet, quiet}
@@ -40,16 +40,6 @@ quiet-leader n s g quiet u node = rw ups (one-leader n p (g .inv) (record { empt
 
 -- ---- quiet, read off the network
 
-same-bool : (a b : Bool) → Bool·beq a b ≡ true → a ≡ b
-same-bool true true e = refl
-same-bool true false e = clash e refl
-same-bool false true e = clash e refl
-same-bool false false e = refl
-
-beq-refl : (a : Bool) → Bool·beq a a ≡ true
-beq-refl true = refl
-beq-refl false = refl
-
 -- for a history that tells what the network holds
 pub quiet-quiescent : (n : ℕ) (p : Network) (h : History) → Told h p → quiet n p ≡ true → Quiescent n (upIn h) (waiting h)
 unfolding quiet pairQuiet
@@ -78,8 +68,8 @@ module _ (n : ℕ) (s : State) (g : Good n s) where
       every-pair-all n (pairQuiet p) (λ u l k v i j. go u v (record { low = l; high = k }) (record { low = i; high = j }) (equal? u v))
     where
       go : (u v : ℕ) → Node n u → Node n v → SameOrNot u v → pairQuiet p u v ≡ true
-      go u v a b (inl e) = rw (← e, diagonal n p (g .fits) u) (beq-refl (upTo p u u))
+      go u v a b (inl e) = rw (← e, diagonal n p (g .fits) u) (beq-same (upTo p u u) (upTo p u u) refl)
       go u v a b (inr d) =
           let t : Two n u v = record { one = a; other = b; differ = d } in
           let none : p .channel u v ≡ [] = no-length (p .channel u v) (omega (arith, g .told .counts u v, q .empty u v t)) in
-          rw (none, ← g .told .ups u v, ← g .told .ups v u, q .paired u v t) (beq-refl (upIn (s .history) v u))
+          rw (none, ← g .told .ups u v, ← g .told .ups v u, q .paired u v t) (beq-same (upIn (s .history) v u) (upIn (s .history) v u) refl)

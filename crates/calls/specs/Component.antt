@@ -24,7 +24,7 @@ pub data Joined (n : ℕ) (ups : ℕ → ℕ → Bool) : ℕ → ℕ → Type 0 
   alone : {u : ℕ} → Joined n ups u u
   link : {u v w : ℕ} → Linked n ups u v → Joined n ups v w → Joined n ups u w
 
--- a chain (descending path): each linked to the next and of greater own height than the next
+-- a chain (descending path): neighbours in it are linked, and own heights fall along it
 pub data Descending (n : ℕ) (ups : ℕ → ℕ → Bool) (own : ℕ → Height) : ℕ → ℕ → Type 0 where
   arrived : {u : ℕ} → Descending n ups own u u
   falls : {u v w : ℕ} → Linked n ups u v → before (heightKey (own v)) (heightKey (own u)) ≡ true → Descending n ups own v w → Descending n ups own u w

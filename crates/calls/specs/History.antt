@@ -27,7 +27,7 @@ entry e s = record { event = e; said = s }
 abbrev pub entered : Event → Said → History → History
 entered e s h = cond (eqb (s .why .number) 0) (entry e s ∷ h) h
 
--- ---- channel u to v is up exactly when the last up or down of u, v in the history is an up
+-- ---- is channel u to v up: the newest of the ups and downs of u, v decides, and without one it is down
 
 abbrev pub turned : Event → ℕ → ℕ → Bool → Bool
 turned (up a b) u v old = cond (eqb u a && eqb v b) true old
@@ -38,7 +38,7 @@ abbrev pub upIn : History → ℕ → ℕ → Bool
 upIn [] u v = false
 upIn (e ∷ h) u v = turned (e .event) u v (upIn h u v)
 
--- ---- messages waiting: sendings less receipts, both since the last down of u, v or else the start
+-- ---- messages waiting: sendings less receipts; a down of u, v starts both counts anew
 
 -- an event at u whose set sent to holds v
 abbrev pub isSending : Entry → ℕ → ℕ → Bool

@@ -71,7 +71,7 @@ keeping w o = cond (eqb (o .said) 0) (record { bytes = o .after; at = w .now; hi
 abbrev pub savedTo : {A : Type 0} → RunState A → Outcome ℕ (List ℕ) → RunState A
 savedTo w o = record { now = w .now; history = w .history; saves = keeping w o }
 
--- an accepted restore puts back the history as it stood at the last save that wrote these bytes
+-- an accepted restore returns to the history of the youngest save with these bytes
 abbrev pub restored : {A : Type 0} → RunState A → List ℕ → Outcome ℕ A → RunState A
 restored w b o =
     record { now = o .after; history = cond (eqb (o .said) 0) (historyAt (lastSave b (w .saves))) (w .history); saves = w .saves }
@@ -85,7 +85,7 @@ module _ {A : Type 0} (calls : Calls A) where
   abbrev pub perform : RunState A → List Call → RunState A
   perform w cs = afterAll act w cs
 
-  -- a restore is handed the bytes that an earlier accepted save of the list wrote, or any bytes that it refuses
+  -- a restore gets either the bytes of an accepted save before it in the list, or bytes to which it says no
   pub data Fair (w : RunState A) : Call → Type 0 where
     fairEvent : (m : ℕ) (e : Event) → Fair w (event m e)
     fairSave : (m : ℕ) (out : List ℕ) → Fair w (save m out)

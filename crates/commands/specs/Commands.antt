@@ -1,5 +1,5 @@
 -- Lines, numbers and commands of a bench input: document 01, "The bench program".
--- Single spaces; numbers of one or two digits without a leading zero, 0 itself allowed; the last line may lack its newline.
+-- One space between parts; a number is 0 to 99 written as short as it goes; a newline behind the last line may be missing.
 use Prim.Native.Nat.{ℕ, suc, _+_, _-_, _*_}
 use mathlib.Core.Bool.{Bool, not, cond, _&&_}
 use mathlib.Core.List.{List, [], _∷_}
@@ -65,7 +65,7 @@ named kind u v =
     cond (ltb u none && ltb v none)
     (cond (eqb kind 85) (saidEvent 85 u v) (cond (eqb kind 68) (saidEvent 68 u v) (cond (eqb kind 77) (saidEvent 77 u v) saidMalformed))) saidMalformed
 
--- an event line: "U u v", "D u v" or "M u v" (receipt at v from u)
+-- an event line: U, D or M and two numbers; M names the sender first
 unfoldable pub commandOf : List ℕ → SaidCommand
 commandOf l =
     cond (eqb (getD l 1 0) 32)

@@ -11,4 +11,5 @@ pub mod FinishLaws
 pub mod CheckedLaws
 pub mod CallerLaws
 pub mod PassingLaws
+pub mod OwnView
 pub mod RunLaws

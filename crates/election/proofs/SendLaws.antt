@@ -14,8 +14,8 @@ use Rattle.basics.proofs.FunctionsLaws.{every-at}
 use Rattle.basics.proofs.Tests.{clash, SameOrNot, equal?, not-both}
 use Rattle.height.specs.declared.Height.{Height}
 use Rattle.height.proofs.WordsLaws.{stored-length}
-use Rattle.nodeset.specs.NodeSet.{member}
-use Rattle.nodeset.specs.inner.Operations.{sameNode, inButNot, lowest}
+use Rattle.nodeset.specs.NodeSet.{member, sameNode, lowest}
+use Rattle.nodeset.specs.inner.Operations.{inButNot}
 use Rattle.nodeset.proofs.Members.{none-in-zero, member-range}
 use Rattle.nodeset.proofs.Walk.{LowestNode, lowest-in, member-without, without-less}
 use Rattle.protocol.specs.Network.{Node}

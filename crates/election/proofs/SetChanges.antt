@@ -11,8 +11,8 @@ use Rattle.basics.specs.Functions.{update}
 use Rattle.basics.proofs.FunctionsLaws.{update-at, update-off}
 use Rattle.basics.proofs.Tests.{not-true-is-false, equal?, and-left}
 use Rattle.decision.specs.inner.After.{sendsTo}
-use Rattle.nodeset.specs.NodeSet.{member, setOf}
-use Rattle.nodeset.specs.inner.Operations.{sameNode, inEither, inButNot}
+use Rattle.nodeset.specs.NodeSet.{member, setOf, sameNode}
+use Rattle.nodeset.specs.inner.Operations.{inEither, inButNot}
 use Rattle.nodeset.proofs.Members.{member-setOf-all, setOf-within, setOf-more}
 use Rattle.protocol.specs.Network.{Node}
 use Rattle.protocol.specs.declared.Rule.{Rule}

@@ -140,7 +140,7 @@ fn decide_ignored(n: u32, v: u32, row: &[u32]) -> Decided
     })
 }
 
-// A message from a node in one of the sets: it joins N, leaves F, and its view is stored.
+// A message from a node in one of the sets: the sender moves to N, and the row takes its height as the view of it.
 fn decide_heard(n: u32, u: u32, v: u32, row: &[u32], cell: &[u32]) -> Decided
     requires { ⌜ (n ≤ 16) × Node n u × Node n v × RowFits n (now row) × (length (now cell) ≡ cellWidth) × (1 ≤ count (now cell))
         × ((member (neighborsIn (now row)) v || member (formingIn (now row)) v) ≡ true) ⌝ }

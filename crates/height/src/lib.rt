@@ -43,7 +43,7 @@ pub struct Height {
     pub id: u32,
 }
 
-// The moved clock, or the refusal at its end (7).
+// The clock after a move, or 7 where it has no number left.
 pub enum Moved {
     To(Time),
     AtEnd,

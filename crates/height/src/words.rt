@@ -1,4 +1,4 @@
-// A height as seven words of a lent table: tau, oid, r, delta in two's complement, election time without its sign, lid, id.
+// A height as seven words of a lent table: tau, oid, r, delta (two's complement), the election time as a positive number, lid, id.
 // These are leaves: only our crates call them, with the bounds that `requires` states.
 ghost use mathlib.Core.Path.{_≡_};
 ghost use Prim.Native.Nat.{_+_, _≤_};

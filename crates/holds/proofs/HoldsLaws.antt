@@ -15,8 +15,7 @@ use Rattle.height.specs.Clock.{lastTime}
 use Rattle.height.specs.inner.Stored.{Negated}
 use Rattle.height.specs.declared.Height.{Height}
 use Rattle.height.specs.declared.ReferenceLevel.{ReferenceLevel}
-use Rattle.nodeset.specs.NodeSet.{member, within}
-use Rattle.nodeset.specs.inner.Operations.{apart}
+use Rattle.nodeset.specs.NodeSet.{member, within, apart}
 use Rattle.nodeset.proofs.Members.{none-above}
 use Rattle.protocol.specs.Holds.{levelHolds, deltaHolds, leaderPairHolds, heightHolds, notInBoth, setsHold}
 

@@ -1,5 +1,5 @@
 -- The header taken apart: document 01, "The plot image" and refusals 10 and 11.
--- Under 4 bytes: 10. Version not 1, header length not 32, n outside 1 to 16, or spare bits not 0: 11.
+-- Under 4 bytes: 10. Another version than 1, another header length than 32, n of 0 or above 16, or a spare bit set: 11.
 use Prim.Native.Nat.{ℕ, _-_}
 use mathlib.Core.Bool.{Bool, cond, _&&_}
 use mathlib.Core.List.{List}

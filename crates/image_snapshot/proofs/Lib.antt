@@ -6,6 +6,7 @@ pub mod SameImage
 pub mod RestoreAny
 pub mod RefusedLaws
 pub mod NodePlaces
+pub mod CountLaws
 pub mod SaveLaws
 pub mod LookLaws
 pub mod LookSaved

@@ -2,3 +2,4 @@
 pub mod Save
 pub mod Restore
 pub mod ReadNode
+pub mod Count

@@ -1,4 +1,4 @@
-// Images of networks: save, restore, and one node at a saved place.
+// Images of networks: save, restore, one node at a saved place, and how many nodes an image is of.
 // Every call answers or refuses; a refusal changes nothing lent.
 ghost use mathlib.Core.Path.{_≡_};
 ghost use Rattle.image_reader.specs.Record.{saidNode};
@@ -7,6 +7,7 @@ ghost use Rattle.lent.specs.Check.{saidCheck};
 ghost use Rattle.refusal.specs.Outcome.{outcome};
 ghost use Rattle.refusal.specs.Refusal.{whyOf};
 ghost use Rattle.tables.specs.Tables.{atEntry, atExit};
+ghost use Rattle.image_snapshot.specs.Count.{saidCount, countOn};
 ghost use Rattle.image_snapshot.specs.ReadNode.{readNodeOn};
 ghost use Rattle.image_snapshot.specs.Restore.{restoreOn};
 ghost use Rattle.image_snapshot.specs.Save.{saidSave, saveOn};
@@ -24,6 +25,12 @@ pub enum Saved {
     Refused(Refusal),
 }
 
+// How many nodes a header names, or why not: under 4 bytes (10), or no header of ours (11).
+pub enum CountRead {
+    Found(u32),
+    Refused(Refusal),
+}
+
 // What a look at one node answers: its clock and both sets, or why not.
 pub use image_reader::NodeRead;
 pub use image_reader::NodeRecord;
@@ -35,6 +42,16 @@ pub fn save(n: u32, nodes: &[u32], channels: &[u32], out: &mut [u8]) -> Saved
     match lent::check(n, nodes, channels) {
         Checked::Sound => saving::checked(n, nodes, channels, out),
         Checked::Refused(why) => Saved::Refused(why),
+    }
+}
+
+// How many nodes the image is of, by its header alone: what tables to lend for a restore.
+pub fn count(image: &[u8]) -> CountRead
+    ensures { λ r. ⌜ saidCount r ≡ countOn (now (image .entry)) ⌝ }
+{
+    match image_reading::decode(image) {
+        Header::Good(fields) => CountRead::Found(fields.n),
+        Header::Refused(why) => CountRead::Refused(why),
     }
 }
 

@@ -20,7 +20,7 @@ fn pair_holds(n: u32, u: u32, v: u32, nodes: &[u32], channels: &[u32]) -> bool
     pairs::view_sound(n, v, row) & pairs::channel_sound(n, u, v, row, cell)
 }
 
-// The first pair at fault, u ascending, then v ascending; the search stops there, out of both walks.
+// The first pair at fault, by u and then by v. Finding it ends both walks at once.
 pub fn first_fault(n: u32, nodes: &[u32], channels: &[u32]) -> Checked
     requires { ⌜ Sized n (given nodes channels) ⌝ }
     ensures { λ r. ⌜ saidCheck r ≡ firstFault n (atEntry nodes channels) ⌝ }

@@ -10,8 +10,8 @@ use lib.Count.{ones, ones-step}
 use lib.Dec.{eqb, leb}
 use lib.Pow.{pow-mono, pow-pos, shr-shr}
 use borrow.Author.Tests.{ltb-true, lt-ltb, leb-true, leb-false, eqb-true, eqb-false, eq-eqb, ne-eqb}
-use Rattle.nodeset.specs.NodeSet.{member, digit, setOf, within}
-use Rattle.nodeset.specs.inner.Operations.{sizeOf, apart}
+use Rattle.nodeset.specs.NodeSet.{member, digit, setOf, within, sameNode, apart}
+use Rattle.nodeset.specs.inner.Operations.{sizeOf}
 
 -- ---- the lowest bit is node 1, and the half has the others, one lower
 
@@ -249,3 +249,17 @@ and-apart n a b l = go (apart n (member a) (member b)) refl
     go false e =
         ne-eqb (bitAnd a b) 0 (λ q. true≢false (sym (at-apart n (member a) (member b)
         (λ k p u. sym (member-and a b k) ∙ ap (λ (x : ℕ). member x k) q ∙ none-in-zero k)) ∙ e))
+
+-- ---- one node alone
+
+pub is-same : (k j : ℕ) → j ≡ k → sameNode k j ≡ true
+unfolding sameNode
+is-same k j e = eq-eqb j k e
+
+pub same-is : (k j : ℕ) → sameNode k j ≡ true → j ≡ k
+unfolding sameNode
+same-is k j e = eqb-true j k e
+
+pub not-same : (k j : ℕ) → (j ≡ k → ⊥) → sameNode k j ≡ false
+unfolding sameNode
+not-same k j d = ne-eqb j k d

@@ -7,8 +7,8 @@ use lib.Count.{trailingZeros, under}
 use lib.Dec.{eqb}
 use lib.Pow.{pow-mono, pow-pos}
 use borrow.Author.Tests.{eqb-false, eq-eqb, ne-eqb}
-use Rattle.nodeset.specs.NodeSet.{member, setOf}
-use Rattle.nodeset.specs.inner.Operations.{sizeOf, sameNode, inButNot, leastFrom, lowest}
+use Rattle.nodeset.specs.NodeSet.{member, setOf, sameNode, leastFrom, lowest}
+use Rattle.nodeset.specs.inner.Operations.{sizeOf, inButNot}
 use Rattle.nodeset.proofs.Members.{member-zero, member-one, member-half, member-range, member-setOf-all, none-above, setOf-member, one-more}
 
 -- ---- the lowest node

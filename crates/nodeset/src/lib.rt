@@ -1,9 +1,9 @@
-// Sets of nodes 1 to 16 in a u16 (document 01: N and F), node k at the bit worth 2 to the power k - 1.
+// Sets of nodes 1 to 16 in a u16 (document 01: N and F), node k at bit k - 1, the lowest being bit 0.
 // Every function takes any number; a node number outside 1 to 16 is in no set.
 ghost use mathlib.Core.Path.{_≡_};
 ghost use lib.Count.{ones};
-ghost use Rattle.nodeset.specs.NodeSet.{member, setOf, within};
-ghost use Rattle.nodeset.specs.inner.Operations.{sameNode, inEither, inButNot, apart, lowest};
+ghost use Rattle.nodeset.specs.NodeSet.{member, setOf, within, sameNode, apart, lowest};
+ghost use Rattle.nodeset.specs.inner.Operations.{inEither, inButNot};
 
 // The set of node k alone.
 pub fn single(k: u32) -> u16

@@ -1,4 +1,4 @@
--- An event that returns 0 has passed each test of the order 3, then 4, 5 or 6, then 7, 8, 9.
+-- An event that returns 0 has passed each test of the order: 3, its own of 4 to 6, then 7 to 9.
 use Prim.Native.Nat.{ℕ, suc, _≤_}
 use native.Mathlib.Omega.{arith}
 use mathlib.Core.Bool.{Bool, true, false, not, cond, _&&_}

@@ -1,5 +1,5 @@
--- Locality: an event's answer and what it leaves at its node u depend only on u's record, the channels from u and the channel
--- received from; and it changes nothing else.
+-- Locality: an event's answer and what it leaves at its node u depend only on u's record, the channels from u and the message
+-- received; and it changes nothing else.
 use Prim.Native.Nat.{ℕ}
 use mathlib.Core.Bool.{true, false, cond}
 use mathlib.Core.List.{List, [], _∷_, tail}
@@ -25,19 +25,33 @@ pub record SameAt (u : ℕ) (p q : Network) : Type 0 where
   pub height : p .height u ≡ q .height u
   pub channel : p .channel u ≡ q .channel u
 
--- the channel received from; an up or a down receives from none
+-- the first of some messages, alone
+abbrev pub first : List Message → List Message
+first [] = []
+first (m ∷ ms) = m ∷ []
+
+-- the message received, if one waits; an up or a down receives none
 abbrev pub heard : Network → Event → List Message
 heard p (up u v) = []
 heard p (down u v) = []
-heard p (receive v u) = p .channel v u
+heard p (receive v u) = first (p .channel v u)
+
+first-empty : (ms : List Message) → isEmpty (first ms) ≡ isEmpty ms
+first-empty [] = refl
+first-empty (m ∷ ms) = refl
 
 module _ (n : ℕ) (p q : Network) where
   same-local : (e : Event) → SameAt (home e) p q → heard p e ≡ heard q e → local n p e ≡ local n q e
   unfolding localUp localDown localTaken localIgnored
   same-local (up u v) s h = rw (s .clock, s .neighbors, s .forming, s .height)
   same-local (down u v) s h = rw (s .clock, s .neighbors, s .forming, s .height)
-  same-local (receive v u) s h = ap (localReceipt n p u v) h ∙ go (q .channel v u)
+  same-local (receive v u) s h =
+      alone p (p .channel v u) ∙ ap (localReceipt n p u v) h ∙ go (first (q .channel v u)) ∙ sym (alone q (q .channel v u))
     where
+      alone : (x : Network) (ms : List Message) → localReceipt n x u v ms ≡ localReceipt n x u v (first ms)
+      alone x [] = refl
+      alone x (m ∷ ms) = refl
+
       go : (ms : List Message) → localReceipt n p u v ms ≡ localReceipt n q u v ms
       go [] = rw (s .clock, s .neighbors, s .forming, s .height)
       go (m ∷ ms) = rw (s .clock, s .neighbors, s .forming, s .height)
@@ -45,7 +59,7 @@ module _ (n : ℕ) (p q : Network) where
   same-unfit : (e : Event) → SameAt (home e) p q → heard p e ≡ heard q e → unfit p e ≡ unfit q e
   same-unfit (up u v) s h = rw (s .neighbors, s .forming)
   same-unfit (down u v) s h = rw (s .neighbors, s .forming)
-  same-unfit (receive v u) s h = ap isEmpty h
+  same-unfit (receive v u) s h = sym (first-empty (p .channel v u)) ∙ ap isEmpty h ∙ first-empty (q .channel v u)
 
   same-cleared : (e : Event) → SameAt (home e) p q → heard p e ≡ heard q e → cleared p e (home e) ≡ cleared q e (home e)
   same-cleared (up u v) s h = s .channel

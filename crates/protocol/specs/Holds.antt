@@ -1,5 +1,5 @@
 -- The rules of document 01, "What a station holds", as tests; refusal 2 names the first pair at which one fails.
--- The pair u, u has the clock, both sets and the own height; the pair u, v the view of v and the channel u to v.
+-- At the pair u, u stand clock, N, F and own height; at u, v the view of v and the channel u to v.
 use Prim.Native.Nat.{ℕ}
 use mathlib.Core.Bool.{Bool, true, false, not, cond, _&&_, _||_}
 use mathlib.Core.List.{List, [], _∷_}
@@ -16,7 +16,7 @@ use Rattle.height.specs.declared.LeaderPair.{LeaderPair}
 use Rattle.height.specs.declared.ReferenceLevel.{ReferenceLevel}
 use Rattle.protocol.specs.Network.{Message, Network, upTo, capacity}
 
--- originator 0 to n, bit 0 or 1; the search time is 0 exactly when the originator is 0, and then the bit is 0
+-- originator 0 to n, bit 0 or 1; no search: time, originator and bit are all 0; a search: neither time nor originator is 0
 unfoldable pub levelHolds : ℕ → ReferenceLevel → Bool
 levelHolds n l =
     leb (l .tau .0) lastTime && leb (l .oid) n && leb (l .r) 1

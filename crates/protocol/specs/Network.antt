@@ -37,7 +37,7 @@ pub record Two (n u v : ℕ) : Type 0 where
   pub other : Node n v
   pub differ : u ≡ v → ⊥
 
--- channel u to v is up exactly when v is in N or F of u
+-- channel u to v is up: one of the sets of u has v
 abbrev pub upTo : Network → ℕ → ℕ → Bool
 upTo p u v = p .neighbors u v || p .forming u v
 

@@ -1,4 +1,4 @@
--- The refusals of an event and their order: document 01, "Returned numbers", 3, then 4, 5 or 6, then 7, 8, 9.
+-- The refusals of an event and their order: document 01, "Returned numbers": 3, its own of 4 to 6, then 7 to 9.
 -- (1 and 2 are about the lent tables.) A refused event changes nothing.
 use Prim.Native.Nat.{ℕ}
 use mathlib.Core.Bool.{Bool, false, not, cond, _&&_, _||_}
@@ -38,7 +38,7 @@ unfitNumber (receive v u) = 6
 unfoldable pub late : Local → Bool
 late l = ltb lastTime (l .clock)
 
--- 8: rule A or P would take the depth, here the new one, out of range
+-- 8: rule A or P, and its new depth is no depth
 abbrev pub tooDeep : Rule → ℤ → Bool
 tooDeep ChannelUp d = false
 tooDeep ElectSelf d = false
@@ -54,7 +54,7 @@ tooDeep Reply d = false
 unfoldable pub hasRoom : Local → (ℕ → List Message) → ℕ → Bool
 hasRoom l channel w = not (l .sent w) || ltb (length (channel w)) capacity
 
--- 9: some channel to be sent on already holds 8
+-- 9: a channel that the event sends on is full
 unfoldable pub crowded : ℕ → Local → (ℕ → List Message) → Bool
 crowded n l channel = not (every n (hasRoom l channel))
 

@@ -13,6 +13,6 @@ unfoldable pub above : (ℕ → Bool) → (ℕ → Height) → ℕ → ℕ → B
 above N row u v =
     not (N v) || (same (pairKey (row v .pair)) (pairKey (row u .pair)) && before (heightKey (row u)) (heightKey (row v)))
 
--- every view in N has u's leader pair and is greater than u's height, and u's leader is not u
+-- all views in N stand above u and have its leader pair, and u follows another leader
 unfoldable pub sink : ℕ → (ℕ → Bool) → (ℕ → Height) → ℕ → Bool
 sink n N row u = every n (above N row u) && not (eqb (row u .pair .lid) u)

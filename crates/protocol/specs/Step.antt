@@ -101,7 +101,7 @@ carried n N F row u v t rule =
 
 -- ---- the events, at their node
 
--- v joins F; u sends its height to v. Rule U
+-- rule U: v is put into F and gets the height of u
 unfoldable pub localUp : ℕ → Network → ℕ → ℕ → Local
 localUp n p u v =
     carried n (p .neighbors u) (update (p .forming u) v true) (p .height u) u v (ticked (p .clock u)) ChannelUp
@@ -118,7 +118,7 @@ unfoldable pub localIgnored : ℕ → Network → ℕ → ℕ → ℕ → Local
 localIgnored n p u v stamp =
     carried n (p .neighbors u) (p .forming u) (p .height u) u v (receiptClock true (p .clock u) stamp) Ignored
 
--- v joins N, leaves F, and its view is stored
+-- the sender v moves from F to N, and its height becomes the view of it
 unfoldable pub localTaken : ℕ → Network → ℕ → ℕ → Message → Local
 localTaken n p u v m =
     let N : ℕ → Bool = update (p .neighbors u) v true in

@@ -3,7 +3,7 @@
 use Prim.Native.Nat.{ℕ}
 use mathlib.Core.Bool.{cond}
 use mathlib.Core.List.{List, _++_}
-use lib.Dec.{leb}
+use lib.Dec.{eqb, leb}
 use lib.ListN.{length, drop}
 use Rattle.refusal.specs.Refusal.{why}
 use Rattle.refusal.specs.declared.Why.{Why}
@@ -26,6 +26,10 @@ accepted v = record { why = why 0 0 0; value = v }
 
 abbrev pub refusedWith : {A : Type 0} → A → Why → Answered A
 refusedWith none w = record { why = w; value = none }
+
+-- by what a check says: its refusal, else the answer
+abbrev pub afterCheck : {A : Type 0} → A → Why → Answered A → Answered A
+afterCheck none c x = cond (eqb (c .number) 0) x (refusedWith none c)
 
 -- bytes to the front of lent bytes, and how many; those behind them stay. Where they do not fit: 14
 unfoldable pub putFront : List ℕ → List ℕ → Outcome (Answered ℕ) (List ℕ)

@@ -65,7 +65,7 @@ pub record Resumed (n : ℕ) (cs : List Call) (b : List ℕ) : Type 0 where
   pub tables : (es : List EventCall) → afterAll tablesLeft (restoreOn b (tablesAt n cs) .after) es ≡ afterAll tablesLeft (tablesAt n (last .before)) es
 
 pub record Demand3 (n : ℕ) (cs : List Call) : Type 0 where
-  -- (a) v is in N or F of u exactly when the last up or down of u, v in the history is an up,
+  -- (a) v is in one of the sets of u exactly when the history leaves that channel up,
   -- and the messages on channel u to v are those that the history counts as sent, less those that it counts as received
   pub up-is : (u v : ℕ) → upTo (networkAt n cs) u v ≡ upIn (historyAfter n cs) u v
   pub waiting-is : (u v : ℕ)

@@ -7,4 +7,5 @@ pub mod AllowedLists
 pub mod Demand3
 pub mod SavedComesBack
 pub mod ReadOff
+pub mod Desk
 pub mod OlderSave

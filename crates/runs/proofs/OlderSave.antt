@@ -12,6 +12,10 @@ use Rattle.calls.specs.Component.{Quiescent, OneLeader}
 use Rattle.calls.specs.History.{Entry, entry, upIn, waiting}
 use Rattle.calls.specs.Run.{Call, event, save, restore, Saved, startOfRun}
 use Rattle.election.specs.StepOn.{stepAt, stepChecked, stepOn}
+use Rattle.groups.specs.Group.{groupNamed, groupOn}
+use Rattle.groups.specs.Groups.{linked, reached, oneRound, rounds, groupBy, groupOf, isHead, headsOf, collects, collectorsIn}
+use Rattle.groups.specs.Heads.{headsOn}
+use Rattle.groups.specs.Quiet.{quietOn}
 use Rattle.height.specs.Height.{zeroLevel, levelKey, pairKey, heightKey}
 use Rattle.height.specs.Order.{before, same}
 use Rattle.height.specs.Words.{deltaOf, deltaWord, heightWords, heightAt}
@@ -26,7 +30,7 @@ use Rattle.image_reading.specs.Walk.{channelStep, onward, steps, channelsFromWa
 use Rattle.image_snapshot.specs.Restore.{restoreExamined, restoreOf, restoreHeaded, restoreOn}
 use Rattle.image_snapshot.specs.Save.{saveChecked, saveOn}
 use Rattle.lent.specs.Check.{pairAt, faultInRow, faultFrom, firstFault, checkOn}
-use Rattle.nodeset.specs.NodeSet.{member, setOf, within}
+use Rattle.nodeset.specs.NodeSet.{member, setOf, within, sameNode, apart, leastFrom, lowest}
 use Rattle.pairs.specs.Pair.{ownSound, viewSound, channelSound, pairSound}
 use Rattle.protocol.specs.Answer.{carriedOut, saidRefused}
 use Rattle.protocol.specs.Holds.{levelHolds, deltaHolds, leaderPairHolds, heightHolds, messageHolds, notInBoth, setsHold}
@@ -48,6 +52,7 @@ use Rattle.runs.specs.OnTables.{tablesAfter, putOut, onTables, freshTabl
 use Rattle.runs.specs.inner.Replies.{Reply, toEvent, toSave, toRestore, reply, replies}
 use Rattle.runs.proofs.AllowedLists.{refused-allowed}
 use Rattle.runs.proofs.Demand3.{tablesAt, networkAt, historyAfter, Resumed, Demand3, demand-3}
+use Rattle.runs.proofs.Desk.{CollectorSaid, desk}
 use Rattle.runs.proofs.Lists.{fair-append, plain-fair}
 use Rattle.runs.proofs.ReadOff.{quiet-by-history}
 use Rattle.runs.proofs.SavedComesBack.{ComesBack, saved-comes-back}
@@ -138,7 +143,7 @@ pub record Computed : Type 0 where
   -- the accepted saves, newest first; the older put these bytes out
   pub saves-are : map (λ (s : Saved Tables). s .bytes) (after 2 behind .saves) ≡ younger ∷ older ∷ []
   pub put-out : putOut (saveOn 2 (tablesAt 2 meet) room) ≡ older
-  pub accepted : saveOn 2 (tablesAt 2 meet) room .said .why .number ≡ 0
+  pub save-accepted : saveOn 2 (tablesAt 2 meet) room .said .why .number ≡ 0
   pub no-image : restoreOn [] (tablesAt 2 first) .said .number ≡ 10
   pub at-fault : restoreOn damaged (tablesAt 2 (first ++ (restore [] ∷ []))) .said .number ≡ 2
   -- the accepted events, newest first, each with what was said; those behind the older save are gone
@@ -151,6 +156,13 @@ pub record Computed : Type 0 where
   -- at the end it is the network of the younger save again, and quiet
   pub ends-as-younger : putOut (saveOn 2 (tablesAt 2 calls) room) ≡ younger
   pub ends-quiet : quiet 2 (networkAt 2 calls) ≡ true
+  -- what the desk is told at the end; with two messages on their way behind the first calls; and when both nodes are alone again
+  pub quiet-said : quietOn 2 (tablesAt 2 calls) ≡ accepted 1
+  pub group-said : groupOn 2 2 (tablesAt 2 calls) ≡ accepted (record { members = 3; collectors = 1 })
+  pub one-group : headsOn 2 (tablesAt 2 calls) ≡ accepted 1
+  pub not-yet : quietOn 2 (tablesAt 2 meet) ≡ accepted 0
+  pub apart-again : headsOn 2 (tablesAt 2 behind) ≡ accepted 3
+  pub no-third : groupOn 2 3 (tablesAt 2 calls) ≡ refusedWith (record { members = 0; collectors = 0 }) (why 3 0 0)
 
 -- and by the theorems: the list is allowed, the restore is accepted and goes on as the older save, and at the end the history is quiet and one node leads
 pub record TakenBack : Type 0 where
@@ -159,6 +171,7 @@ pub record TakenBack : Type 0 where
   pub resumed : Resumed 2 behind older
   pub quiet-then : Quiescent 2 (upIn (historyAfter 2 calls)) (waiting (historyAfter 2 calls))
   pub one-leader : (u : ℕ) → Node 2 u → OneLeader 2 (upIn (historyAfter 2 calls)) (own (networkAt 2 calls)) u
+  pub one-said : (u : ℕ) → Node 2 u → CollectorSaid 2 calls u
 
 -- ---- the proof
 
@@ -172,18 +185,25 @@ unfolding bits number unpacked packed field spread gathered stepAt stepChecked s
     downRule larger largest deltas ofLevel oneLevelRule equalPairsRule receiptRule above sink carried localUp localDown localIgnored
     localTaken post commit step afterWalk examined headerHolds headerOf channelStep onward steps channelsFromWalk channelsWalk walk endsAt
     restoreExamined restoreOf restoreHeaded restoreOn putFront saveChecked saveOn messageAt messagesAt queue allZero messageWords
-    load tablesOf heightIn rowAt rows sized reply tablesAfter nodePlace pairQuiet quiet
+    load tablesOf heightIn rowAt rows sized reply tablesAfter nodePlace pairQuiet quiet sameNode apart leastFrom lowest linked reached oneRound
+    rounds groupBy groupOf isHead headsOf collects collectorsIn quietOn headsOn groupNamed groupOn
 computed = record {
   answered = refl;
   saves-are = refl;
   put-out = refl;
-  accepted = refl;
+  save-accepted = refl;
   no-image = refl;
   at-fault = refl;
   history-is = refl;
   last-counts = refl;
   ends-as-younger = refl;
   ends-quiet = refl;
+  quiet-said = refl;
+  group-said = refl;
+  one-group = refl;
+  not-yet = refl;
+  apart-again = refl;
+  no-third = refl;
 }
 
 first-allowed : Allowed 2 first
@@ -200,7 +220,7 @@ back : ComesBack 2 (tablesAt 2 meet) older behind
 back =
     rw (computed .put-out) at
     (saved-comes-back 2 (omega arith) (omega arith) meet (settle ++ (save 2 room ∷ (separate ++ (restore [] ∷ restore damaged ∷ [])))) 2 room
-    behind-allowed (computed .accepted))
+    behind-allowed (computed .save-accepted))
 
 calls-allowed : Allowed 2 calls
 unfolding all
@@ -217,4 +237,5 @@ taken-back = record {
   resumed = demanded .resumed behind settle older refl (rw (back .restored));
   quiet-then = quiet-by-history 2 calls demanded (computed .ends-quiet);
   one-leader = demanded .one-leader (quiet-by-history 2 calls demanded (computed .ends-quiet));
+  one-said = desk 2 (omega arith) (omega arith) calls calls-allowed .collector (computed .quiet-said);
 }

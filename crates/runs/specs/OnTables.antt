@@ -54,6 +54,6 @@ then w c = act onTables w c
 abbrev pub after : ℕ → List Call → RunState Tables
 after n cs = perform onTables (startOfRun (freshTables n)) cs
 
--- each restore is handed the bytes that an earlier accepted save of the list wrote, or bytes that it refuses
+-- each restore gets either the bytes of an accepted save before it in the list, or bytes to which it says no
 abbrev pub Allowed : ℕ → List Call → Type 0
 Allowed n cs = AllFair onTables (startOfRun (freshTables n)) cs

@@ -7,8 +7,7 @@ use lib.Bits.{bitAnd}
 use lib.Dec.{eqb}
 use borrow.Author.Needs.{needs}
 use borrow.Author.Tests.{eq-eqb, ne-eqb, eqb-true}
-use Rattle.nodeset.specs.NodeSet.{member, setOf}
-use Rattle.nodeset.specs.inner.Operations.{sameNode}
+use Rattle.nodeset.specs.NodeSet.{member, setOf, sameNode}
 use Rattle.nodeset.proofs.Members.{and-apart, at-apart, member-and, member-range, member-setOf, none-in-zero}
 use Rattle.nodeset.proofs.contains.Statement.{statement}
 use Rattle.nodeset.proofs.contains.Tie as tie

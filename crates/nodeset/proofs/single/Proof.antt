@@ -7,8 +7,7 @@ use lib.Dec.{lit<}
 use lib.Pow.{shl-exact}
 use borrow.Author.Needs.{needs}
 use borrow.Author.Tests.{eq-eqb, ne-eqb}
-use Rattle.nodeset.specs.NodeSet.{setOf}
-use Rattle.nodeset.specs.inner.Operations.{sameNode}
+use Rattle.nodeset.specs.NodeSet.{setOf, sameNode}
 use Rattle.nodeset.proofs.Members.{setOf-none, one-more}
 use Rattle.nodeset.proofs.single.Statement.{statement}
 use Rattle.nodeset.proofs.single.Tie as tie

@@ -6,7 +6,8 @@ use mathlib.Core.Bool.{Bool}
 use mathlib.Core.List.{List, [], _∷_}
 use mathlib.Core.Path.{_≡_, refl, sym, _∙_}
 use types.Run.{OneOf, miss}
-use Rattle.nodeset.specs.inner.Operations.{sameNode, inEither}
+use Rattle.nodeset.specs.NodeSet.{sameNode}
+use Rattle.nodeset.specs.inner.Operations.{inEither}
 use Rattle.nodeset.proofs.Members.{setOf-none, setOf-ext}
 use Rattle.protocol.specs.Step.{sends}
 use Rattle.protocol.specs.declared.Rule.the-variants.{ChannelUp, ElectSelf, StartNewRefLevel, NoChange, Ignored}

@@ -1,0 +1,3 @@
+-- Definitions for leaf functions and proofs: no public promise cites them.
+pub mod Looks
+pub mod Words

@@ -1,0 +1,34 @@
+-- `image_look::show::all_channels` is safe and ends: u climbs to n.
+use Prim.Native.Nat.{_+_, _-_, _≤_}
+use borrow.Author.Needs.{needs}
+use Rattle.image_look.proofs.show.all_channels.Statement.{statement}
+use Rattle.image_look.proofs.show.all_channels.Tie as tie
+
+abbrev Inv-loop : tie.InvT-loop
+Inv-loop n channels u₀ u = 1 ≤ u
+
+abbrev μ-loop : tie.MeasureT-loop
+μ-loop n channels u₀ u = n + 1 - u
+
+loop-holds : tie.Need-loop-holds Inv-loop μ-loop
+loop-holds c = search needs
+
+channels-from-requires : tie.Need-channels-from-requires Inv-loop μ-loop
+channels-from-requires c κs = search needs
+
+add-u : tie.Need-add-u Inv-loop μ-loop
+add-u c = search needs
+
+loop-less : tie.Need-loop-less Inv-loop μ-loop
+loop-less c = search needs
+
+loop-again : tie.Need-loop-again Inv-loop μ-loop
+loop-again c = search needs
+
+returns : tie.Need-returns Inv-loop μ-loop
+returns c = search needs
+
+pub all-channels-spec : {M : Type 1} → statement M
+all-channels-spec =
+    tie.close
+    (tie.spec Inv-loop μ-loop loop-holds channels-from-requires add-u loop-less loop-again returns)
