@@ -1,4 +1,4 @@
-/* Two loggers: link up, elect, save, lose the link, resume, look at one station.
+/* A plot of two loggers: link up, elect, save, lose the link, resume, look at one station, and what is refused.
  * Build: gcc -std=c11 -Iinclude examples/logger.c target/staticlib/libabi.a
  */
 #include <inttypes.h>
@@ -6,33 +6,23 @@
 
 #include "election.h"
 
-enum { N = 2, ROW = 3 + 7 * N, NODES = N * ROW, CELL = 65, CHANNELS = N * N * CELL, IMAGE = 512 };
+enum { N = 2, NODES = ELECTION_NODES_LEN(N), CHANNELS = ELECTION_CHANNELS_LEN(N), IMAGE = ELECTION_IMAGE_MAX(N) };
 
 static uint32_t nodes[NODES];
 static uint32_t channels[CHANNELS];
 static uint8_t image[IMAGE];
 
-/* ---- reading the tables */
-
-static uint32_t clock_of(uint32_t u) { return nodes[(u - 1) * ROW]; }
-
-/* The leader in u's own height. */
-static uint32_t leader_of(uint32_t u) { return nodes[(u - 1) * ROW + 3 + 7 * (u - 1) + 5]; }
-
-/* How many messages wait on the channel from u to v. */
-static uint32_t waiting(uint32_t u, uint32_t v) { return channels[((u - 1) * N + (v - 1)) * CELL]; }
-
 static void show_stations(void) {
     for (uint32_t u = 1; u <= N; u++)
-        printf("  station %" PRIu32 ": clock %" PRIu32 ", collector %" PRIu32 "%s\n", u, clock_of(u), leader_of(u),
-               leader_of(u) == u ? " (itself)" : "");
+        printf("  station %" PRIu32 ": clock %" PRIu32 ", collector %" PRIu32 "%s\n", u, election_clock(N, u, nodes),
+               election_leader(N, u, nodes), election_is_collector(N, u, nodes) ? " (itself)" : "");
 }
 
 /* ---- events */
 
 static void show(const char *event, uint32_t u, uint32_t v, election_answer a) {
     printf("%s %" PRIu32 " %" PRIu32 ": %" PRIu32 ", rule %c, sent %" PRIu32, event, u, v, a.number, (char)a.rule, a.sent);
-    if (a.rule == 'A')
+    if (a.rule == ELECTION_RULE_ADOPT)
         printf(", adopted from %" PRIu32, a.adopted_from);
     if (a.number == ELECTION_FAULT)
         printf(", fault at %" PRIu32 " %" PRIu32, a.fault_at, a.fault_with);
@@ -60,7 +50,7 @@ static void deliver(void) {
         busy = 0;
         for (uint32_t u = 1; u <= N; u++)
             for (uint32_t v = 1; v <= N; v++)
-                if (waiting(u, v) > 0 && receive(u, v))
+                if (election_waiting(N, u, v, channels) > 0 && receive(u, v))
                     busy = 1;
     }
     show_stations();
@@ -79,41 +69,36 @@ static void resume(size_t len) {
     printf("resume from %zu bytes: %" PRIu32 "\n", len, r.number);
 }
 
-/* Where station k's record starts: header, then k - 1 records. */
-static uint64_t place_of(uint32_t k) { return 32 + (uint64_t)(k - 1) * (64 + 96 * N); }
-
 static void look(size_t len, uint32_t k, uint64_t place) {
-    uint32_t row[7 * N];
-    election_station s = election_read_node(image, len, k, place, row, 7 * N);
+    uint32_t row[ELECTION_ROW_LEN(N)];
+    election_station s = election_read_node(image, len, k, place, row, ELECTION_ROW_LEN(N));
     printf("station %" PRIu32 " at bit %" PRIu64 ": %" PRIu32, k, place, s.number);
     if (s.number == ELECTION_DONE)
         printf(", clock %" PRIu32 ", linked %" PRIu32 ", forming %" PRIu32 ", collector %" PRIu32, s.clock, s.linked, s.forming,
-               row[7 * (k - 1) + 5]);
+               row[(k - 1) * ELECTION_HEIGHT_LEN + ELECTION_AT_LEADER]);
     printf("\n");
 }
 
 /* ---- what is refused, and changes nothing */
 
 static void refusals(size_t len) {
-    up(1, 2);                      /* 4: it is up */
-    receive(1, 2);                 /* 6: nothing waits */
-    up(1, N + 1);                  /* 3: no such station */
-    look(len, 2, place_of(2) + 1); /* 13: one bit off */
-    look(len, 1, place_of(2));     /* 13: another station's record */
-    look(len, N + 1, place_of(2)); /* 3: no such station */
-    resume(len - 1);               /* 12: cut off */
-    resume(3);                     /* 10: under 4 bytes */
+    up(1, 2);                               /* ELECTION_ALREADY_UP */
+    receive(1, 2);                          /* ELECTION_NO_MESSAGE */
+    up(1, N + 1);                           /* ELECTION_STATION */
+    look(len, 2, election_place(N, 2) + 1); /* ELECTION_PLACE: one bit off */
+    look(len, 1, election_place(N, 2));     /* ELECTION_PLACE: another station's record */
+    look(len, N + 1, election_place(N, 2)); /* ELECTION_STATION */
+    resume(len - 1);                        /* ELECTION_IMAGE_END: cut off */
+    resume(3);                              /* ELECTION_IMAGE_SHORT */
     election_saved s = election_save(N, nodes, NODES, channels, CHANNELS, image, len - 1);
-    printf("save in %zu bytes: %" PRIu32 "\n", len - 1, s.number); /* 14: one byte short */
-    nodes[1] = 1;                                                  /* station 1 linked to itself: 2, with the pair */
+    printf("save in %zu bytes: %" PRIu32 "\n", len - 1, s.number); /* ELECTION_ROOM: one byte short */
+    nodes[ELECTION_AT_LINKED] = 1;                                 /* station 1 linked to itself: ELECTION_FAULT, with the pair */
     election_checked c = election_check(N, nodes, NODES, channels, CHANNELS);
     printf("check: %" PRIu32 " at %" PRIu32 " %" PRIu32 "\n", c.number, c.fault_at, c.fault_with);
     down(1, 2);
 }
 
 int main(void) {
-    if (election_nodes_len(N) != NODES || election_channels_len(N) != CHANNELS || election_image_len(N) > IMAGE)
-        return 1;
     election_checked f = election_fresh(N, nodes, NODES, channels, CHANNELS);
     printf("fresh: %" PRIu32 "\n", f.number);
     up(1, 2);
@@ -127,7 +112,7 @@ int main(void) {
 
     resume(len);
     show_stations();
-    look(len, 2, place_of(2));
+    look(len, 2, election_place(N, 2));
     refusals(len);
     return 0;
 }

@@ -1,0 +1,132 @@
+/* How much stack each call takes at n = 16: a thread's stack is painted below this program's frames, the call is made, and the deepest
+ * word that lost its paint is looked for. Each call runs on plots that are fresh, half full, full, and faulty in the last word.
+ * Link with -Wl,-z,now: else the first memmove is looked up at run time, on this stack.
+ * Prints the largest depth of each call; exit status 1 if one is above what include/election.h says, or if a call was not measured.
+ */
+#include <pthread.h>
+#include <stdio.h>
+#include <string.h>
+
+#include "election.h"
+
+enum { N = ELECTION_MAX_STATIONS, PAINTED = 64 * 1024, MARGIN = 4096, CALLS = 16 };
+enum { NODES = ELECTION_NODES_LEN(N), CHANNELS = ELECTION_CHANNELS_LEN(N), ROW = ELECTION_ROW_LEN(N), IMAGE = ELECTION_IMAGE_MAX(N) };
+static const uint64_t PAINT = 0xa5a5a5a5a5a5a5a5u;
+
+static uint32_t nodes[NODES], channels[CHANNELS], row[ROW];
+static uint32_t spare_nodes[NODES], spare_channels[CHANNELS];
+static uint8_t image[IMAGE], out[IMAGE];
+static size_t image_len;
+static volatile uint64_t seen;
+
+/* ---- the calls */
+
+static void nothing(void) { seen = 0; }
+static void lengths(void) { seen = election_nodes_len(N) + election_channels_len(N) + election_row_len(N) + election_image_len(N); }
+static void check(void) { seen = election_check(N, nodes, NODES, channels, CHANNELS).number; }
+static void up(void) { seen = election_up(N, 1, 2, nodes, NODES, channels, CHANNELS).number; }
+static void down(void) { seen = election_down(N, 1, 2, nodes, NODES, channels, CHANNELS).number; }
+static void down_last(void) { seen = election_down(N, 16, 15, nodes, NODES, channels, CHANNELS).number; }
+static void receive(void) { seen = election_receive(N, 2, 3, nodes, NODES, channels, CHANNELS).number; }
+static void receive_last(void) { seen = election_receive(N, 16, 1, nodes, NODES, channels, CHANNELS).number; }
+static void save(void) { seen = election_save(N, nodes, NODES, channels, CHANNELS, out, IMAGE).number; }
+static void restore(void) { seen = election_restore(image, image_len, spare_nodes, NODES, spare_channels, CHANNELS).number; }
+static void read_node(void) { seen = election_read_node(image, image_len, N, election_place(N, N), row, ROW).number; }
+static void quiet(void) { seen = election_quiet(N, nodes, NODES, channels, CHANNELS).number; }
+static void groups(void) { seen = election_groups(N, nodes, NODES, channels, CHANNELS).number; }
+static void group_of(void) { seen = election_group_of(N, N, nodes, NODES, channels, CHANNELS).number; }
+static void image_stations(void) { seen = election_image_stations(image, image_len).number; }
+static void fresh(void) { seen = election_fresh(N, spare_nodes, NODES, spare_channels, CHANNELS).number; }
+
+static const struct {
+    const char *name;
+    void (*call)(void);
+} calls[CALLS] = {{"lengths", lengths}, {"fresh", fresh},     {"check", check},         {"down", down},
+                  {"up", up},           {"receive", receive}, {"receive", receive_last}, {"quiet", quiet},
+                  {"groups", groups},   {"group_of", group_of}, {"save", save},          {"image_stations", image_stations},
+                  {"restore", restore}, {"read_node", read_node}, {"down", down_last},   {"up", up}};
+
+/* ---- the painted stack */
+
+/* Makes the call below the margin that is not painted. */
+static __attribute__((noinline)) void padded(void (*call)(void)) {
+    volatile uint8_t pad[2 * MARGIN];
+    pad[0] = 1;
+    pad[2 * MARGIN - 1] = 1;
+    call();
+    pad[1] = pad[0];
+}
+
+static __attribute__((noinline)) size_t depth_of(void (*call)(void)) {
+    volatile uint64_t here = 0;
+    uintptr_t top = (uintptr_t)&here & ~(uintptr_t)7;
+    for (uintptr_t at = top - PAINTED; at < top - MARGIN; at += 8)
+        *(volatile uint64_t *)at = PAINT;
+    padded(call);
+    for (uintptr_t at = top - PAINTED; at < top; at += 8)
+        if (*(volatile uint64_t *)at != PAINT)
+            return top - at;
+    return 0;
+}
+
+/* ---- the plots */
+
+/* Every station linked to every other, each with its own search level, and `waiting` messages on every channel. */
+static void fill(uint32_t waiting) {
+    election_fresh(N, nodes, NODES, channels, CHANNELS);
+    for (uint32_t u = 1; u <= N; u++) {
+        uint32_t *r = nodes + (u - 1) * ELECTION_STATION_LEN(N);
+        r[ELECTION_AT_LINKED] = 0xffffu & ~(1u << (u - 1));
+        for (uint32_t v = 1; v <= N; v++) {
+            const uint32_t message[ELECTION_MESSAGE_LEN] = {v, v, 0, v, 0, 1, v, 1};
+            uint32_t *c = channels + ((v - 1) * N + (u - 1)) * ELECTION_CELL_LEN;
+            memcpy(r + ELECTION_AT_HEIGHTS + (v - 1) * ELECTION_HEIGHT_LEN, message, ELECTION_HEIGHT_LEN * sizeof message[0]);
+            c[0] = u == v ? 0 : waiting;
+            for (size_t i = 0; i < c[0]; i++)
+                memcpy(c + 1 + i * ELECTION_MESSAGE_LEN, message, sizeof message);
+        }
+    }
+}
+
+static size_t deepest[CALLS];
+
+static void measure(void) {
+    size_t base = depth_of(nothing);
+    for (size_t i = 0; i < CALLS; i++) {
+        size_t depth = depth_of(calls[i].call) - base;
+        if (depth > deepest[i])
+            deepest[i] = depth;
+    }
+}
+
+static void *run(void *given) {
+    for (uint32_t waiting = 0; waiting <= ELECTION_CAPACITY; waiting += ELECTION_CAPACITY / 2) {
+        fill(waiting);
+        image_len = (size_t)election_save(N, nodes, NODES, channels, CHANNELS, image, IMAGE).size;
+        if (image_len == 0)
+            return given;
+        measure();
+    }
+    election_fresh(N, nodes, NODES, channels, CHANNELS);
+    measure();
+    fill(ELECTION_CAPACITY);
+    channels[CHANNELS - 1] = 1;
+    image[image_len - 1] ^= 1;
+    measure();
+    return NULL;
+}
+
+int main(void) {
+    pthread_t thread;
+    void *failed = &failed;
+    if (pthread_create(&thread, NULL, run, &failed) != 0 || pthread_join(thread, &failed) != 0 || failed != NULL) {
+        printf("a plot was refused, or there is no thread\n");
+        return 1;
+    }
+    int wrong = 0;
+    for (size_t i = 0; i < CALLS; i++) {
+        printf("%s %zu\n", calls[i].name, deepest[i]);
+        wrong |= deepest[i] > ELECTION_STACK_MAX || deepest[i] == 0;
+    }
+    return wrong;
+}
