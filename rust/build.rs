@@ -1,4 +1,5 @@
-//! Links libabi.a, which `rt staticlib abi` writes, from ELECTION_LIB_DIR or ../target/staticlib.
+//! Links the proved archive, from ELECTION_LIB_DIR or ../target/staticlib: libabi.a as `rt staticlib abi` writes it, or libelection.a as
+//! `bin/install` names it.
 use std::env;
 use std::path::PathBuf;
 
@@ -6,15 +7,20 @@ fn main() {
     let default =
         PathBuf::from(env::var_os("CARGO_MANIFEST_DIR").unwrap()).join("../target/staticlib");
     let dir = env::var_os("ELECTION_LIB_DIR").map_or(default, PathBuf::from);
-    let archive = dir.join("libabi.a");
     println!("cargo:rerun-if-env-changed=ELECTION_LIB_DIR");
-    println!("cargo:rerun-if-changed={}", archive.display());
-    if !archive.is_file() {
+    let Some(name) = ["abi", "election"]
+        .into_iter()
+        .find(|name| dir.join(format!("lib{name}.a")).is_file())
+    else {
         panic!(
-            "{} is missing: run `rt staticlib abi`, or set ELECTION_LIB_DIR",
-            archive.display()
+            "no libabi.a and no libelection.a in {}: run `rt staticlib abi`, or set ELECTION_LIB_DIR",
+            dir.display()
         );
-    }
+    };
+    println!(
+        "cargo:rerun-if-changed={}",
+        dir.join(format!("lib{name}.a")).display()
+    );
     println!("cargo:rustc-link-search=native={}", dir.display());
-    println!("cargo:rustc-link-lib=static=abi");
+    println!("cargo:rustc-link-lib=static={name}");
 }

@@ -1,10 +1,11 @@
 //! What the calls answer.
 
 use crate::ffi;
-use std::fmt;
+use core::fmt;
 
 /// Why a call is refused. Nothing that was lent has changed then.
 #[derive(Clone, Copy, Debug, PartialEq, Eq, Hash)]
+#[non_exhaustive]
 pub enum Refusal {
     /// 1: n outside 1 to 16, or a table, or a row, not of the length for n.
     Sizes,
@@ -15,7 +16,7 @@ pub enum Refusal {
         /// The station that the fault is about; `at` itself for its clock, sets and own height.
         with: u32,
     },
-    /// 3: a station number outside 1 to n, or an event that names one station twice.
+    /// 3: no station of 1 to n, or an event that names one station twice.
     Station,
     /// 4: up on a channel that is up.
     AlreadyUp,
@@ -23,7 +24,7 @@ pub enum Refusal {
     AlreadyDown,
     /// 6: receipt from a channel with no message.
     NoMessage,
-    /// 7: the clock would pass its end.
+    /// 7: the clock would pass its end: it is there, or the stamp received is.
     ClockEnd,
     /// 8: the depth would leave -32,768 to 32,767.
     DepthEnd,
@@ -33,16 +34,18 @@ pub enum Refusal {
     ImageShort,
     /// 11: version, header length, station count or spare bits of an image.
     ImageHeader,
-    /// 12: image ends too early, has bytes left over, or pad bits not 0.
+    /// 12: image cut off, or longer than its plot, or a pad bit set.
     ImageEnd,
-    /// 13: the saved place is not where that station's record starts.
+    /// 13: the station's record does not start at the place that was saved.
     Place,
     /// 14: output room too small.
     Room,
+    /// A number that this crate does not know, from a newer library.
+    Other(u32),
 }
 
 impl Refusal {
-    /// The returned number, 1 to 14.
+    /// The returned number.
     pub fn number(self) -> u32 {
         match self {
             Refusal::Sizes => 1,
@@ -59,10 +62,11 @@ impl Refusal {
             Refusal::ImageEnd => 12,
             Refusal::Place => 13,
             Refusal::Room => 14,
+            Refusal::Other(number) => number,
         }
     }
 
-    /// `Ok` for 0; the numbers behind 14 are never answered.
+    /// `Ok` for 0.
     pub(crate) fn check(number: u32, at: u32, with: u32) -> Result<(), Refusal> {
         Err(match number {
             0 => return Ok(()),
@@ -80,7 +84,7 @@ impl Refusal {
             12 => Refusal::ImageEnd,
             13 => Refusal::Place,
             14 => Refusal::Room,
-            other => unreachable!("returned number {other}"),
+            other => Refusal::Other(other),
         })
     }
 }
@@ -94,7 +98,7 @@ impl fmt::Display for Refusal {
             Refusal::AlreadyUp => "the channel is up",
             Refusal::AlreadyDown => "the channel is down",
             Refusal::NoMessage => "no message waits",
-            Refusal::ClockEnd => "the clock is at its end",
+            Refusal::ClockEnd => "the clock, or the stamp received, is at its end",
             Refusal::DepthEnd => "the depth is at its end",
             Refusal::ChannelFull => "a channel is full",
             Refusal::ImageShort => "the image is under 4 bytes",
@@ -102,12 +106,13 @@ impl fmt::Display for Refusal {
             Refusal::ImageEnd => "the image's end is wrong",
             Refusal::Place => "the station's record is elsewhere",
             Refusal::Room => "the room is too small",
+            Refusal::Other(_) => "a number that this crate does not know",
         };
         write!(f, "{}: {why}", self.number())
     }
 }
 
-impl std::error::Error for Refusal {}
+impl core::error::Error for Refusal {}
 
 /// A set of stations.
 #[derive(Clone, Copy, Debug, Default, PartialEq, Eq, Hash)]
@@ -143,38 +148,41 @@ impl Stations {
 #[derive(Clone, Copy, Debug, PartialEq, Eq, Hash)]
 pub struct Level {
     /// Search time.
-    pub tau: u32,
+    pub search_time: u32,
     /// The station that started the search, 0 for none.
     pub originator: u32,
     /// Whether the level is reflected.
-    pub bit: u32,
+    pub bit: bool,
 }
 
 /// What an accepted event did. The names are those of the algorithm's subroutines.
 #[derive(Clone, Copy, Debug, PartialEq, Eq, Hash)]
+#[non_exhaustive]
 pub enum Rule {
-    /// U: a channel went up.
+    /// U: the channel is up, and the station's height went along it.
     ChannelUp,
-    /// E: the station elected itself.
+    /// E: the station elected itself: alone, or its search came back from everywhere.
     ElectSelf,
-    /// S: the station started a level.
+    /// S: the station lost its way to the collector and started a search.
     StartNewRefLevel,
     /// Q: nothing to do.
     NoChange,
-    /// I: the message was ignored.
+    /// I: the sender is in neither set; only the clock moved.
     Ignored,
-    /// F: the level was reflected.
+    /// F: the search was sent back.
     ReflectRefLevel,
-    /// P: the largest level was taken on.
+    /// P: the largest level of the views was taken, and the search passed on.
     PropagateLargestRefLevel(Level),
-    /// A: the leader of this station was adopted.
+    /// A: the collector of this station, the more recent, was adopted.
     AdoptLpIfPriority(u32),
-    /// R: the station replied.
+    /// R: the sender's collector is the older one; the station sent it its own height.
     Reply,
+    /// A letter that this crate does not know, from a newer library.
+    Other(char),
 }
 
 impl Rule {
-    /// One of U E S Q I F P A R.
+    /// One of U E S Q I F P A R, or another of a newer library.
     pub fn letter(self) -> char {
         match self {
             Rule::ChannelUp => 'U',
@@ -186,11 +194,12 @@ impl Rule {
             Rule::PropagateLargestRefLevel(_) => 'P',
             Rule::AdoptLpIfPriority(_) => 'A',
             Rule::Reply => 'R',
+            Rule::Other(letter) => letter,
         }
     }
 
     fn of(a: &ffi::Answer) -> Rule {
-        match char::from(a.rule as u8) {
+        match char::from_u32(a.rule).unwrap_or(char::REPLACEMENT_CHARACTER) {
             'U' => Rule::ChannelUp,
             'E' => Rule::ElectSelf,
             'S' => Rule::StartNewRefLevel,
@@ -198,13 +207,13 @@ impl Rule {
             'I' => Rule::Ignored,
             'F' => Rule::ReflectRefLevel,
             'P' => Rule::PropagateLargestRefLevel(Level {
-                tau: a.level_tau,
+                search_time: a.level_tau,
                 originator: a.level_originator,
-                bit: a.level_bit,
+                bit: a.level_bit != 0,
             }),
             'A' => Rule::AdoptLpIfPriority(a.adopted_from),
             'R' => Rule::Reply,
-            other => unreachable!("rule {other}"),
+            other => Rule::Other(other),
         }
     }
 }
@@ -262,9 +271,9 @@ impl Height {
     pub fn from_words(w: &[u32; 7]) -> Height {
         Height {
             level: Level {
-                tau: w[0],
+                search_time: w[0],
                 originator: w[1],
-                bit: w[2],
+                bit: w[2] != 0,
             },
             depth: w[3] as i32,
             election_time: w[4],
@@ -272,9 +281,67 @@ impl Height {
             station: w[6],
         }
     }
+}
 
-    pub(crate) fn row(words: &[u32]) -> Vec<Height> {
-        let seven = |w: &[u32]| Height::from_words(w.try_into().expect("seven words"));
-        words.chunks_exact(7).map(seven).collect()
+/// A linked group, and the collectors in it.
+#[derive(Clone, Copy, Debug, PartialEq, Eq, Hash)]
+pub struct Group {
+    /// The stations of the group.
+    pub members: Stations,
+    /// Those of them that are collectors.
+    pub collectors: Stations,
+    /// The collector, if there is exactly one; on a quiet plot there is.
+    pub collector: Option<u32>,
+}
+
+impl Group {
+    pub(crate) fn of(g: ffi::Group) -> Result<Group, Refusal> {
+        Refusal::check(g.number, g.fault_at, g.fault_with)?;
+        Ok(Group {
+            members: Stations::from_word(g.members),
+            collectors: Stations::from_word(g.collectors),
+            collector: (g.collector != 0).then_some(g.collector),
+        })
+    }
+}
+
+#[cfg(test)]
+mod tests {
+    use super::*;
+
+    const DONE: ffi::Answer = ffi::Answer {
+        number: 0,
+        fault_at: 0,
+        fault_with: 0,
+        rule: 'Q' as u32,
+        sent_to: 0,
+        sent: 0,
+        adopted_from: 0,
+        level_tau: 0,
+        level_originator: 0,
+        level_bit: 0,
+    };
+
+    /// A newer library may answer a number or a letter that is not known here.
+    #[test]
+    fn unknown_numbers_and_letters() {
+        let newer = ffi::Answer { number: 15, ..DONE };
+        assert_eq!(Step::of(newer), Err(Refusal::Other(15)));
+        assert_eq!(Refusal::Other(15).number(), 15);
+        for (rule, letter) in [('Z' as u32, 'Z'), (0xd800, '\u{fffd}')] {
+            let step = Step::of(ffi::Answer { rule, ..DONE }).unwrap();
+            assert_eq!(
+                (step.rule, step.rule.letter()),
+                (Rule::Other(letter), letter)
+            );
+        }
+    }
+
+    #[test]
+    fn every_number_is_itself() {
+        assert_eq!(Refusal::check(0, 0, 0), Ok(()));
+        for number in 1..=20 {
+            assert_eq!(Refusal::check(number, 1, 2).unwrap_err().number(), number);
+        }
     }
 }

@@ -1,7 +1,8 @@
 //! include/election.h, declared again, and each call as a function over slices. Nowhere else is a pointer handed to the library.
 //!
 //! The comparisons in `tests/` and the benchmarks take this file in by `#[path]`, so it is written once. Simpler than to depend on this
-//! crate: it then needs no public module of raw answers, and each of the three keeps its own way to find `libabi.a`.
+//! crate: it then needs no public module of raw answers, and each of the three keeps its own way to find `libabi.a`. None calls all.
+#![allow(dead_code)]
 
 /// What an event answers.
 #[repr(C)]
@@ -48,6 +49,28 @@ pub struct Station {
     pub clock: u32,
     pub linked: u32,
     pub forming: u32,
+}
+
+/// What a question with one word as its answer answers.
+#[repr(C)]
+#[derive(Clone, Copy, Debug, PartialEq, Eq)]
+pub struct Value {
+    pub number: u32,
+    pub fault_at: u32,
+    pub fault_with: u32,
+    pub value: u32,
+}
+
+/// What a question for one station's group answers.
+#[repr(C)]
+#[derive(Clone, Copy, Debug, PartialEq, Eq)]
+pub struct Group {
+    pub number: u32,
+    pub fault_at: u32,
+    pub fault_with: u32,
+    pub members: u32,
+    pub collectors: u32,
+    pub collector: u32,
 }
 
 /// The form that up, down and receive share.
@@ -124,6 +147,29 @@ unsafe extern "C" {
         row: *mut u32,
         row_len: usize,
     ) -> Station;
+    fn election_image_stations(image: *const u8, image_len: usize) -> Value;
+    fn election_quiet(
+        n: u32,
+        nodes: *const u32,
+        nodes_len: usize,
+        channels: *const u32,
+        channels_len: usize,
+    ) -> Value;
+    fn election_groups(
+        n: u32,
+        nodes: *const u32,
+        nodes_len: usize,
+        channels: *const u32,
+        channels_len: usize,
+    ) -> Value;
+    fn election_group_of(
+        n: u32,
+        u: u32,
+        nodes: *const u32,
+        nodes_len: usize,
+        channels: *const u32,
+        channels_len: usize,
+    ) -> Group;
 }
 
 // Every `unsafe` below: the calls have no precondition but valid memory, and a slice is valid for its length; a `&mut` overlaps nothing.
@@ -203,4 +249,27 @@ pub fn restore(image: &[u8], nodes: &mut [u32], channels: &mut [u32]) -> Checked
 pub fn read_node(image: &[u8], k: u32, place: u64, row: &mut [u32]) -> Station {
     let (len, row_len) = (image.len(), row.len());
     unsafe { election_read_node(image.as_ptr(), len, k, place, row.as_mut_ptr(), row_len) }
+}
+
+/// The number of stations in an image's header.
+pub fn image_stations(image: &[u8]) -> Value {
+    unsafe { election_image_stations(image.as_ptr(), image.len()) }
+}
+
+/// 1 if the plot is quiet.
+pub fn quiet(n: u32, nodes: &[u32], channels: &[u32]) -> Value {
+    let (a, b) = (nodes.as_ptr(), channels.as_ptr());
+    unsafe { election_quiet(n, a, nodes.len(), b, channels.len()) }
+}
+
+/// The lowest stations of all groups.
+pub fn groups(n: u32, nodes: &[u32], channels: &[u32]) -> Value {
+    let (a, b) = (nodes.as_ptr(), channels.as_ptr());
+    unsafe { election_groups(n, a, nodes.len(), b, channels.len()) }
+}
+
+/// The group of station u.
+pub fn group_of(n: u32, u: u32, nodes: &[u32], channels: &[u32]) -> Group {
+    let (a, b) = (nodes.as_ptr(), channels.as_ptr());
+    unsafe { election_group_of(n, u, a, nodes.len(), b, channels.len()) }
 }

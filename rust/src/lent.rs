@@ -5,54 +5,103 @@
 //! - `channels`: n n cells of 65 words: how many messages wait, then eight places of a height and its stamp, oldest first.
 //!
 //! ```
-//! use plot_election::{lent, Refusal};
+//! use plot_election::{lent, Refusal, View};
 //!
-//! let mut nodes = [0; 34];
-//! let mut channels = [0; 260];
+//! let mut nodes = [0; lent::nodes_len(2)];
+//! let mut channels = [0; lent::channels_len(2)];
 //! lent::fresh(2, &mut nodes, &mut channels)?;
 //! assert_eq!(lent::up(2, 1, 2, &mut nodes, &mut channels)?.sent, 1);
 //! assert_eq!(lent::up(3, 1, 2, &mut nodes, &mut channels), Err(Refusal::Sizes));
+//! let plot = View::new(2, &nodes, &channels)?;
+//! assert_eq!((plot.clock(1), plot.waiting(1, 2)), (Some(1), 1));
 //! # Ok::<(), Refusal>(())
 //! ```
 
-use crate::answers::{Record, Refusal, Stations, Step};
+use crate::answers::{Group, Record, Refusal, Stations, Step};
 use crate::ffi;
+use crate::view::Station;
+
+/// The most stations that a plot can have.
+pub const MAX_STATIONS: u32 = 16;
+
+/// The most messages that wait on a channel.
+pub const CAPACITY: u32 = 8;
+
+/// n as a length, if a plot can have n stations.
+const fn size(n: u32) -> usize {
+    if n <= MAX_STATIONS {
+        n as usize
+    } else {
+        0
+    }
+}
 
 /// Words of the stations' table, n (3 + 7 n); 0 for n outside 1 to 16.
-pub fn nodes_len(n: u32) -> usize {
-    ffi::nodes_len(n)
+pub const fn nodes_len(n: u32) -> usize {
+    size(n) * (3 + 7 * size(n))
 }
 
 /// Words of the channels' table, 65 n n; 0 for n outside 1 to 16.
-pub fn channels_len(n: u32) -> usize {
-    ffi::channels_len(n)
+pub const fn channels_len(n: u32) -> usize {
+    65 * size(n) * size(n)
 }
 
 /// Words of one station's row of heights, 7 n; 0 for n outside 1 to 16.
-pub fn row_len(n: u32) -> usize {
-    ffi::row_len(n)
+pub const fn row_len(n: u32) -> usize {
+    7 * size(n)
 }
 
 /// Bytes that hold every image of n stations, 34,044 for 16; 0 for n outside 1 to 16.
-pub fn image_len(n: u32) -> usize {
-    ffi::image_len(n)
+pub const fn image_len(n: u32) -> usize {
+    let k = size(n);
+    if k == 0 {
+        return 0;
+    }
+    let message = 128;
+    (32 + k * (64 + 96 * k) + k * (k - 1) * (4 + CAPACITY as usize * message)) / 8
+}
+
+/// The bit at which station k's record starts in an image of n stations; `None` for n outside 1 to 16 and k outside 1 to n.
+pub const fn place(n: u32, k: u32) -> Option<u64> {
+    if n > MAX_STATIONS || k < 1 || k > n {
+        return None;
+    }
+    Some(32 + (k as u64 - 1) * (64 + 96 * n as u64))
 }
 
 fn checked(c: ffi::Checked) -> Result<(), Refusal> {
     Refusal::check(c.number, c.fault_at, c.fault_with)
 }
 
+fn value(v: ffi::Value) -> Result<u32, Refusal> {
+    Refusal::check(v.number, v.fault_at, v.fault_with)?;
+    Ok(v.value)
+}
+
 /// The fresh plot of n stations, whatever the tables held.
+///
+/// # Errors
+///
+/// [`Refusal::Sizes`].
 pub fn fresh(n: u32, nodes: &mut [u32], channels: &mut [u32]) -> Result<(), Refusal> {
     checked(ffi::fresh(n, nodes, channels))
 }
 
-/// Refusals 1 and 2 for any tables.
+/// Looks whether any tables hold a plot of n stations.
+///
+/// # Errors
+///
+/// [`Refusal::Sizes`], then [`Refusal::Fault`].
 pub fn check(n: u32, nodes: &[u32], channels: &[u32]) -> Result<(), Refusal> {
     checked(ffi::check(n, nodes, channels))
 }
 
 /// Channel u to v goes up, at u.
+///
+/// # Errors
+///
+/// The first of [`Refusal::Sizes`], [`Fault`](Refusal::Fault), [`Station`](Refusal::Station), [`AlreadyUp`](Refusal::AlreadyUp),
+/// [`ClockEnd`](Refusal::ClockEnd).
 pub fn up(
     n: u32,
     u: u32,
@@ -64,6 +113,11 @@ pub fn up(
 }
 
 /// Channel u to v goes down, at u; its messages are lost.
+///
+/// # Errors
+///
+/// The first of [`Refusal::Sizes`], [`Fault`](Refusal::Fault), [`Station`](Refusal::Station), [`AlreadyDown`](Refusal::AlreadyDown),
+/// [`ClockEnd`](Refusal::ClockEnd), [`ChannelFull`](Refusal::ChannelFull).
 pub fn down(
     n: u32,
     u: u32,
@@ -75,6 +129,11 @@ pub fn down(
 }
 
 /// The first message of channel `from` to `to` is received, at `to`.
+///
+/// # Errors
+///
+/// The first of [`Refusal::Sizes`], [`Fault`](Refusal::Fault), [`Station`](Refusal::Station), [`NoMessage`](Refusal::NoMessage),
+/// [`ClockEnd`](Refusal::ClockEnd), [`DepthEnd`](Refusal::DepthEnd), [`ChannelFull`](Refusal::ChannelFull). The message then stays.
 pub fn receive(
     n: u32,
     from: u32,
@@ -85,25 +144,97 @@ pub fn receive(
     Step::of(ffi::receive(n, from, to, nodes, channels))
 }
 
+/// Whether the plot is quiet: no message waits, and each two stations are up both ways or neither.
+///
+/// # Errors
+///
+/// [`Refusal::Sizes`], then [`Refusal::Fault`].
+pub fn quiet(n: u32, nodes: &[u32], channels: &[u32]) -> Result<bool, Refusal> {
+    Ok(value(ffi::quiet(n, nodes, channels))? != 0)
+}
+
+/// The lowest stations of all linked groups, one for each group.
+///
+/// # Errors
+///
+/// [`Refusal::Sizes`], then [`Refusal::Fault`].
+pub fn groups(n: u32, nodes: &[u32], channels: &[u32]) -> Result<Stations, Refusal> {
+    Ok(Stations::from_word(value(ffi::groups(n, nodes, channels))?))
+}
+
+/// The linked group of station u.
+///
+/// # Errors
+///
+/// The first of [`Refusal::Sizes`], [`Refusal::Fault`], [`Refusal::Station`].
+pub fn group_of(n: u32, u: u32, nodes: &[u32], channels: &[u32]) -> Result<Group, Refusal> {
+    Group::of(ffi::group_of(n, u, nodes, channels))
+}
+
 /// The image of the plot goes to the front of `out`, and its length in bytes is answered; the bytes behind it stay.
+///
+/// # Errors
+///
+/// The first of [`Refusal::Sizes`], [`Refusal::Fault`], [`Refusal::Room`].
 pub fn save(n: u32, nodes: &[u32], channels: &[u32], out: &mut [u8]) -> Result<usize, Refusal> {
     let s = ffi::save(n, nodes, channels, out);
     Refusal::check(s.number, s.fault_at, s.fault_with)?;
     Ok(s.size as usize)
 }
 
+/// The number of stations in an image's header. The rest of the image is not looked at.
+///
+/// # Errors
+///
+/// [`Refusal::ImageShort`], then [`Refusal::ImageHeader`].
+pub fn image_stations(image: &[u8]) -> Result<u32, Refusal> {
+    value(ffi::image_stations(image))
+}
+
 /// Resumes the plot of an image in tables of the header's n.
+///
+/// # Errors
+///
+/// The first of [`Refusal::ImageShort`], [`ImageHeader`](Refusal::ImageHeader), [`Sizes`](Refusal::Sizes); then, on the walk over the
+/// records, [`Fault`](Refusal::Fault) for a count above 8 or [`ImageEnd`](Refusal::ImageEnd), whichever comes first; then
+/// [`ImageEnd`](Refusal::ImageEnd) for what is left over, and [`Fault`](Refusal::Fault) for the contents.
 pub fn restore(image: &[u8], nodes: &mut [u32], channels: &mut [u32]) -> Result<(), Refusal> {
     checked(ffi::restore(image, nodes, channels))
 }
 
-/// Looks at station k, whose record is said to start at the bit `place`; its n heights go into `row`.
-pub fn read_station(image: &[u8], k: u32, place: u64, row: &mut [u32]) -> Result<Record, Refusal> {
+/// Looks at station k, whose record is said to start at the bit `place` (see [`place`]); its n heights go into `row`.
+///
+/// # Errors
+///
+/// Those of [`restore`], with `row` in the place of the tables; then [`Refusal::Station`], then [`Refusal::Place`].
+pub fn read_station<'r>(
+    image: &[u8],
+    k: u32,
+    place: u64,
+    row: &'r mut [u32],
+) -> Result<Station<'r>, Refusal> {
     let s = ffi::read_node(image, k, place, row);
     Refusal::check(s.number, s.fault_at, s.fault_with)?;
-    Ok(Record {
+    let record = Record {
         clock: s.clock,
         linked: Stations::from_word(s.linked),
         forming: Stations::from_word(s.forming),
-    })
+    };
+    Station::new(k, record, row).ok_or(Refusal::Station)
+}
+
+#[cfg(test)]
+mod tests {
+    use super::*;
+
+    /// What is worked out here is what the library says.
+    #[test]
+    fn lengths_are_the_library_s() {
+        for n in (0..=20).chain([256, 65_536 + 6, u32::MAX]) {
+            assert_eq!(nodes_len(n), ffi::nodes_len(n), "{n}");
+            assert_eq!(channels_len(n), ffi::channels_len(n), "{n}");
+            assert_eq!(row_len(n), ffi::row_len(n), "{n}");
+            assert_eq!(image_len(n), ffi::image_len(n), "{n}");
+        }
+    }
 }

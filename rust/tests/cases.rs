@@ -1,21 +1,22 @@
-//! Plots worked by hand: document 01's cases a to d and m, and what is refused.
+//! Plots worked by hand: document 01's cases a to d and m, groups, and what is refused.
+#![cfg(feature = "std")]
 
-use plot_election::{lent, Height, Level, Plot, Refusal, Rule};
+use plot_election::{lent, Group, Height, Level, Plot, Refusal, Rule};
 
 fn own(plot: &Plot, k: u32) -> Height {
-    plot.station(k).unwrap().heights[k as usize - 1]
+    plot.station(k).unwrap().own()
 }
 
 fn clock(plot: &Plot, k: u32) -> u32 {
-    plot.station(k).unwrap().record.clock
+    plot.station(k).unwrap().record().clock
 }
 
 /// A height without a search: depth; election time, leader; station.
 fn height(depth: i32, election_time: u32, leader: u32, station: u32) -> Height {
     let level = Level {
-        tau: 0,
+        search_time: 0,
         originator: 0,
-        bit: 0,
+        bit: false,
     };
     Height {
         level,
@@ -26,7 +27,7 @@ fn height(depth: i32, election_time: u32, leader: u32, station: u32) -> Height {
     }
 }
 
-/// Case a: station 2 has clock 2 and (0,0,0,1; 0,1; 2), rule A.
+/// Case a: by rule A station 2 follows 1 at depth 1; its clock is 2.
 fn adopted() -> Plot {
     let mut plot = Plot::new(2).unwrap();
     assert_eq!(plot.up(1, 2).unwrap().rule, Rule::ChannelUp);
@@ -49,9 +50,10 @@ fn quiet() -> Plot {
     assert_eq!(plot.receive(1, 2).unwrap().rule, Rule::NoChange);
     assert_eq!((clock(&plot, 1), clock(&plot, 2)), (3, 3));
     assert_eq!(
-        (plot.leader(1), plot.leader(2), plot.waiting()),
+        (plot.leader(1), plot.leader(2), plot.first_waiting()),
         (Some(1), Some(1), None)
     );
+    assert_eq!(plot.quiet(), Ok(true));
     plot
 }
 
@@ -88,7 +90,7 @@ fn full() -> (Vec<u32>, Vec<u32>) {
 #[test]
 fn cases_a_to_d() {
     let mut plot = quiet();
-    // d: clock 4, (0,0,0,0; -4,1; 1), rule E
+    // d: by rule E, at clock 4
     let step = plot.down(1, 2).unwrap();
     assert_eq!((step.rule, step.sent), (Rule::ElectSelf, 0));
     assert_eq!((clock(&plot, 1), own(&plot, 1)), (4, height(0, 4, 1, 1)));
@@ -112,10 +114,73 @@ fn case_m_lengths() {
 fn case_m_places() {
     let plot = Plot::new(4).unwrap();
     let image = plot.save().unwrap();
-    assert_eq!(plot.read_station(&image, 3, 928).ok(), plot.station(3));
-    assert_eq!(plot.read_station(&image, 3, 927), Err(Refusal::Place));
-    assert_eq!(plot.read_station(&image, 3, 929), Err(Refusal::Place));
-    assert_eq!(plot.read_station(&image, 5, 928), Err(Refusal::Station));
+    let mut row = [0; lent::row_len(4)];
+    assert_eq!(lent::place(4, 3), Some(928));
+    let look = lent::read_station(&image, 3, 928, &mut row);
+    assert_eq!(look.ok(), plot.station(3));
+    let saved = plot.read_station(&image, 3, 928).unwrap();
+    assert_eq!(Some(saved.station()), plot.station(3));
+    let other = Plot::new(5).unwrap();
+    assert_eq!(other.read_station(&image, 3, 928), Err(Refusal::Sizes));
+    for (k, place, why) in [
+        (3, 927, Refusal::Place),
+        (3, 929, Refusal::Place),
+        (5, 928, Refusal::Station),
+    ] {
+        let look = lent::read_station(&image, k, place, &mut row);
+        assert_eq!(look, Err(why));
+        assert_eq!(plot.read_station(&image, k, place), Err(why));
+    }
+    let look = lent::read_station(&image, 3, 928, &mut row[1..]);
+    assert_eq!(look, Err(Refusal::Sizes));
+}
+
+/// The members, the collectors and the collector of a group.
+fn group(plot: &Plot, u: u32) -> (u16, u16, Option<u32>) {
+    let Group {
+        members,
+        collectors,
+        collector,
+    } = plot.group_of(u).unwrap();
+    (members.bits(), collectors.bits(), collector)
+}
+
+#[test]
+fn quiet_and_groups() {
+    let mut plot = Plot::new(3).unwrap();
+    assert_eq!(plot.quiet(), Ok(true));
+    assert_eq!(plot.groups().unwrap().bits(), 0b111);
+    plot.up(1, 2).unwrap();
+    assert_eq!(plot.quiet(), Ok(false));
+    assert_eq!(plot.groups().unwrap().bits(), 0b111);
+    plot.up(2, 1).unwrap();
+    assert_eq!(plot.groups().unwrap().bits(), 0b101);
+    assert_eq!(group(&plot, 2), (0b11, 0b11, None));
+    while let Some((from, to)) = plot.first_waiting() {
+        plot.receive(from, to).unwrap();
+    }
+    assert_eq!(plot.quiet(), Ok(true));
+    assert_eq!(group(&plot, 2), (0b11, 0b01, Some(1)));
+    assert_eq!(group(&plot, 3), (0b100, 0b100, Some(3)));
+    assert_eq!(plot.group_of(4), Err(Refusal::Station));
+    // case d: no message waits, but 2 is still up to 1, whose collector it follows
+    plot.down(1, 2).unwrap();
+    assert_eq!((plot.first_waiting(), plot.quiet()), (None, Ok(false)));
+    assert_eq!(group(&plot, 2), (0b10, 0, None));
+}
+
+#[test]
+fn from_image() {
+    for n in 1..=16 {
+        let plot = Plot::new(n).unwrap();
+        let image = plot.save().unwrap();
+        assert_eq!(lent::image_stations(&image), Ok(n));
+        assert_eq!(Plot::from_image(&image), Ok(plot));
+        let cut = Plot::from_image(&image[..image.len() - 1]);
+        assert_eq!(cut, Err(Refusal::ImageEnd));
+    }
+    assert_eq!(Plot::from_image(&[0; 3]), Err(Refusal::ImageShort));
+    assert_eq!(Plot::from_image(&[0; 4]), Err(Refusal::ImageHeader));
 }
 
 #[test]
