@@ -35,6 +35,7 @@ fn history(n: u32, calls: usize, random: &mut Random, seen: &mut Seen) {
         }
         event(&mut tables, random, seen);
         if call % 16 == 0 {
+            questions(&tables, seen);
             images(&tables, random, seen);
             damaged_tables(&tables, random, seen);
         }
@@ -228,6 +229,7 @@ fn damaged_tables(tables: &Tables, random: &mut Random, seen: &mut Seen) {
             tables.n = random.word();
         }
         check(&tables, seen);
+        questions(&tables, seen);
         let room = random.below(3000);
         save(&tables, room, seen);
         if tables.n.wrapping_sub(1) < 16 && tables.channels.len() >= abi::channels_len(tables.n) {
@@ -241,6 +243,23 @@ fn check(tables: &Tables, seen: &mut Seen) {
     let plain = plain::check(tables.n, &tables.nodes, &tables.channels);
     same(|| format!("check of {tables:?}"), &library, &plain);
     seen.number(library.number);
+}
+
+/// Quiet, groups, and the group of every number.
+fn questions(tables: &Tables, seen: &mut Seen) {
+    let (n, nodes, channels) = (tables.n, &tables.nodes, &tables.channels);
+    let what = || format!("questions to {tables:?}");
+    let quiet = abi::quiet(n, nodes, channels);
+    same(what, &quiet, &plain::quiet(n, nodes, channels));
+    seen.number(quiet.number);
+    let groups = abi::groups(n, nodes, channels);
+    same(what, &groups, &plain::groups(n, nodes, channels));
+    seen.number(groups.number);
+    for u in 0..=n.min(16) + 1 {
+        let group = abi::group_of(n, u, nodes, channels);
+        same(what, &group, &plain::group_of(n, u, nodes, channels));
+        seen.number(group.number);
+    }
 }
 
 /// Stops the program if the two differ.

@@ -8,6 +8,7 @@ mod check;
 mod events;
 mod heights;
 mod image;
+mod questions;
 mod reader;
 mod reading;
 mod refusals;
@@ -18,5 +19,6 @@ mod writing;
 
 pub use check::check;
 pub use events::{down, receive, up};
+pub use questions::{group_of, groups, quiet};
 pub use reading::{read_node, restore};
 pub use writing::save;

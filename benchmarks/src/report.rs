@@ -31,6 +31,9 @@ fn name(row: &Row) -> String {
         Kind::Save => "save",
         Kind::Restore => "restore",
         Kind::ReadNode => "read_node",
+        Kind::Quiet => "quiet",
+        Kind::Groups => "groups",
+        Kind::GroupOf => "group_of",
     };
     let fill = match row.case.fill {
         Fill::Fresh => "fresh",

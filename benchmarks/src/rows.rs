@@ -14,6 +14,9 @@ pub enum Kind {
     Save,
     Restore,
     ReadNode,
+    Quiet,
+    Groups,
+    GroupOf,
 }
 
 /// How full the channels are.
@@ -38,6 +41,7 @@ pub struct Row {
     pub times: Times,
 }
 
+type Question = fn(u32, &[u32], &[u32]) -> abi::Value;
 type Event = fn(u32, u32, u32, &mut [u32], &mut [u32]) -> abi::Answer;
 
 /// The machine may be faster or slower for seconds, so all rows are measured in each of these rounds.
@@ -68,6 +72,12 @@ fn cases() -> Vec<Case> {
         cases.extend([0, 4, 8].map(|waiting| case(Kind::UpDown, n, Fill::Linked(waiting))));
         cases.extend([1, 4, 8].map(|waiting| case(Kind::Receipt, n, Fill::Linked(waiting))));
     }
+    for kind in [Kind::Quiet, Kind::Groups, Kind::GroupOf] {
+        cases.push(case(kind, 1, Fill::Fresh));
+        for n in [4, 16] {
+            cases.extend([Fill::Fresh, Fill::Linked(0)].map(|fill| case(kind, n, fill)));
+        }
+    }
     for kind in [Kind::Save, Kind::Restore, Kind::ReadNode] {
         cases.push(case(kind, 1, Fill::Fresh));
         for n in [4, 16] {
@@ -97,6 +107,9 @@ fn one_round(case: Case, batches: usize) -> Samples {
         Kind::Save => save(&tables, batches),
         Kind::Restore => restore(&tables, batches),
         Kind::ReadNode => read_node(&tables, batches),
+        Kind::Quiet => question(abi::quiet, plain::quiet, &tables, batches),
+        Kind::Groups => question(abi::groups, plain::groups, &tables, batches),
+        Kind::GroupOf => group_of(&tables, batches),
     }
 }
 
@@ -245,4 +258,29 @@ fn read_node(tables: &Tables, batches: usize) -> Samples {
     );
     assert_eq!(ours, theirs);
     samples
+}
+
+/// A question that answers one value.
+fn question(ours: Question, theirs: Question, tables: &Tables, batches: usize) -> Samples {
+    let ask = |f: Question| {
+        let (nodes, channels) = (black_box(&tables.nodes), black_box(&tables.channels));
+        assert_eq!(f(black_box(tables.n), nodes, channels).number, 0);
+    };
+    sides(batches, 1, || ask(ours), || ask(theirs), pass(tables))
+}
+
+/// The group of the last station.
+fn group_of(tables: &Tables, batches: usize) -> Samples {
+    let ask = |f: fn(u32, u32, &[u32], &[u32]) -> abi::Group| {
+        let (nodes, channels) = (black_box(&tables.nodes), black_box(&tables.channels));
+        let n = black_box(tables.n);
+        assert_eq!(f(n, n, nodes, channels).number, 0);
+    };
+    sides(
+        batches,
+        1,
+        || ask(abi::group_of),
+        || ask(plain::group_of),
+        pass(tables),
+    )
 }

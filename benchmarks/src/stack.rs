@@ -29,10 +29,16 @@ pub fn uses(n: u32) -> Vec<(&'static str, usize)> {
     let restore =
         depth_of(|| abi::restore(&image, &mut resumed.nodes, &mut resumed.channels).number);
     let read_node = depth_of(|| abi::read_node(&image, n, place, &mut row).number);
+    let quiet = depth_of(|| abi::quiet(n, &full.nodes, &full.channels).number);
+    let groups = depth_of(|| abi::groups(n, &full.nodes, &full.channels).number);
+    let group_of = depth_of(|| abi::group_of(n, n, &full.nodes, &full.channels).number);
     let depths = [
         ("up", up),
         ("down", down),
         ("receive", receipt),
+        ("quiet", quiet),
+        ("groups", groups),
+        ("group_of", group_of),
         ("save", save),
         ("restore", restore),
         ("read_node", read_node),

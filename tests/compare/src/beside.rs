@@ -1,6 +1,7 @@
 //! One plot in both: the reference's plot and the tables lent to the interface.
 
 use crate::ffi;
+use crate::questions::{Asked, compare_stations};
 use crate::random::Random;
 use crate::tally::Tally;
 use reference::history::History;
@@ -58,9 +59,29 @@ impl Beside {
             "event {count}: {event:?}"
         );
         self.assert_same_tables();
+        self.ask(tally);
         self.history.note(event, &answer);
         note_event(event, &answer, tally);
         answer
+    }
+
+    /// Quiet, the groups and the group of one number, another at each event; of every number at each eighth.
+    fn ask(&self, tally: &mut Tally) {
+        if self.events.is_multiple_of(8) {
+            self.asked().compare_all(&[], tally);
+        } else {
+            let u = self.events as i64 % (self.n() + 2);
+            self.asked().compare_plot(tally);
+            self.asked().compare_group_of(u, tally);
+        }
+    }
+
+    fn asked(&self) -> Asked<'_> {
+        Asked {
+            n: self.n(),
+            lent: &self.tables,
+            plot: Ok(&self.plot),
+        }
     }
 
     /// The tables hold exactly the reference's plot.
@@ -68,11 +89,13 @@ impl Beside {
         assert_same(&tables::store(&self.plot), &self.tables);
     }
 
-    /// Saves in both, with bytes to spare: the same bytes, and those behind stay.
+    /// Saves in both, with bytes to spare: the same bytes, and those behind stay. The image tells n.
     pub fn save(&self, random: &mut Random, tally: &mut Tally) -> Vec<u8> {
         let image = image::write(&self.plot);
         let room = image.len() + random.below(9);
         compare_save(self.n(), &self.tables, room, random, tally);
+        let told = compare_stations(&image, tally).value;
+        assert_eq!(i64::from(told), self.n(), "stations of a save");
         image
     }
 
@@ -86,7 +109,7 @@ impl Beside {
         tally.note("restore 0");
     }
 
-    /// Demand 3, if the network is quiet. The tables are those of the interface, read afresh.
+    /// Demand 3 and every question, if the network is quiet. The tables are those of the interface, read afresh.
     pub fn check_quiet(&self, tally: &mut Tally) {
         if !quiet::is_quiet(&self.plot) {
             return;
@@ -95,6 +118,7 @@ impl Beside {
         let lent = lent.expect("sound tables");
         assert_eq!(quiet::settled(&lent), Ok(()), "demand 3: {lent:?}");
         tally.note("quiet networks");
+        self.asked().compare_all(&[], tally);
         for group in quiet::groups(&lent) {
             let size = match group.len() {
                 1 => "one",
@@ -239,6 +263,7 @@ pub fn compare_restore(image: &[u8], mut lent: Tables, tally: &mut Tally) {
     let answer = ffi::restore(image, &mut lent.nodes, &mut lent.channels);
     let check = resumed.as_ref().map(|_| ()).map_err(|&refusal| refusal);
     assert_eq!(answer, expected_check(check), "restore");
+    compare_header(image, answer.number, tally);
     assert_same(&resumed.map_or(before, |plot| tables::store(&plot)), &lent);
 }
 
@@ -264,5 +289,15 @@ pub fn compare_look(image: &[u8], k: i64, place: u64, mut row: Vec<u32>, tally: 
         row = look.row;
     }
     assert_eq!(answer, expected, "look at {k}, place {place}");
+    compare_header(image, answer.number, tally);
     assert_same_words("row", &row, &lent);
+}
+
+/// A header tells its stations exactly when the number of a resume or a look is neither 10 nor 11.
+fn compare_header(image: &[u8], number: u32, tally: &mut Tally) {
+    let of_header = match number {
+        10 | 11 => number,
+        _ => 0,
+    };
+    assert_eq!(compare_stations(image, tally).number, of_header);
 }

@@ -3,7 +3,7 @@
 mod images;
 mod tables;
 
-pub use images::{damage_image, join_halves, put_bits};
+pub use images::{FIELDS, damage_image, join_halves, put_bits};
 pub use tables::damage_tables;
 
 use crate::random::Random;

@@ -3,6 +3,7 @@
 use crate::beside::{compare_look, compare_restore, junk_tables};
 use crate::damage;
 use crate::planted;
+use crate::questions::compare_stations;
 use crate::random::Random;
 use crate::tally::Tally;
 use reference::image;
@@ -56,6 +57,23 @@ fn anything(n: i64, random: &mut Random) -> Vec<u8> {
 /// The 32 bits of a right header.
 fn header_word(n: i64) -> u32 {
     (1 << 28) | (32 << 16) | ((n as u32) << 11)
+}
+
+/// From the header of every n of five bits: every number in every field, and every shorter piece.
+pub fn every_header(tally: &mut Tally) {
+    for n in 0..32 {
+        let header = header_word(n).to_be_bytes();
+        for (place, width) in damage::FIELDS {
+            for number in 0..1 << width {
+                let mut bytes = header;
+                damage::put_bits(&mut bytes, place, width, number);
+                compare_stations(&bytes, tally);
+            }
+        }
+        for len in 0..header.len() {
+            compare_stations(&header[..len], tally);
+        }
+    }
 }
 
 /// Reads bytes as a whole image and as one station, mostly into tables and a row of the header's length.

@@ -4,6 +4,7 @@ use crate::beside::{Beside, compare_check, compare_save, compare_step};
 use crate::damage;
 use crate::events::{any_event, planted_event};
 use crate::planted;
+use crate::questions::compare_questions;
 use crate::random::Random;
 use crate::tally::Tally;
 use reference::image;
@@ -23,6 +24,7 @@ pub fn damaged_tables(seed: u64, tally: &mut Tally) {
             damage::damage_tables(n, &mut lent, &mut random);
         }
         compare_check(n, &lent, tally);
+        compare_questions(n, &lent, tally);
         let event = if random.chance(50) {
             planted_event(&sound.plot, &mut random)
         } else {

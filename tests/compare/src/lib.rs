@@ -14,6 +14,7 @@ pub mod ffi;
 pub mod histories;
 pub mod places;
 pub mod planted;
+pub mod questions;
 pub mod random;
 pub mod rounds;
 pub mod sizes;

@@ -152,3 +152,64 @@ fn station(n: i64, u: i64, pool: &Pool, random: &mut Random) -> Station {
     }
     station
 }
+
+/// A plot whose links make groups: these pairs, in another order of the stations, at times one way or not at all. Leaders are
+/// anyone, so a group may have no collector, one or several; often no message waits.
+pub fn grouped_plot(n: i64, pairs: &[(i64, i64)], random: &mut Random) -> Plot {
+    let mut plot = Plot::fresh(n);
+    let names = shuffled(n, random);
+    let joined = random.pick(&[30, 70, 100]);
+    let both_ways = random.pick(&[100, 100, 80]);
+    for (u, v) in pairs.iter().map(|&(u, v)| (names[&u], names[&v])) {
+        if random.chance(joined) {
+            turn_up(&mut plot, u, v, random);
+            if random.chance(both_ways) {
+                turn_up(&mut plot, v, u, random);
+            }
+        }
+    }
+    let itself = random.pick(&[0, 10, 50]);
+    for (&k, station) in &mut plot.stations {
+        station.own.pair.leader = if random.chance(itself) {
+            k
+        } else {
+            random.between(1, n)
+        };
+    }
+    if random.chance(30) {
+        send_one(&mut plot, random);
+    }
+    plot
+}
+
+/// The stations in any order, by their number.
+fn shuffled(n: i64, random: &mut Random) -> BTreeMap<i64, i64> {
+    let mut left: Vec<i64> = (1..=n).collect();
+    (1..=n)
+        .map(|k| (k, left.swap_remove(random.below(left.len()))))
+        .collect()
+}
+
+/// Channel u to v is up, by one of the sets.
+fn turn_up(plot: &mut Plot, u: i64, v: i64, random: &mut Random) {
+    if plot.is_up(u, v) {
+        return;
+    }
+    let station = plot.stations.get_mut(&u).expect("a station");
+    if random.chance(50) {
+        station.linked.insert(v, Height::of_collector(v, 0));
+    } else {
+        station.forming.insert(v);
+    }
+}
+
+/// A message on some channel that is up, if any is.
+fn send_one(plot: &mut Plot, random: &mut Random) {
+    let mut up = ordered_pairs(plot.n);
+    up.retain(|&(u, v)| plot.is_up(u, v));
+    if let Some((u, v)) = random.pick_any(&up) {
+        let height = plot.station(u).own;
+        let stamp = random.between(0, 9);
+        plot.waiting_mut(u, v).push_back(Message { height, stamp });
+    }
+}

@@ -5,6 +5,7 @@ use crate::beside::{
 };
 use crate::ffi;
 use crate::planted;
+use crate::questions::compare_questions;
 use crate::random::Random;
 use crate::tally::Tally;
 use reference::image;
@@ -46,6 +47,8 @@ pub fn wrong_sizes(seed: u64, tally: &mut Tally) {
         resize(&mut lent.nodes, &mut random);
         resize(&mut lent.channels, &mut random);
         compare_check(said, &lent, tally);
+        compare_questions(said, &lent, tally);
+        compare_questions(said, &all_ones(&lent), tally);
         for (u, v) in [(1, 2), (0, 0)] {
             compare_step(said, Event::Up { u, v }, &lent, tally);
             compare_step(said, Event::Down { u, v }, &lent, tally);
@@ -66,11 +69,20 @@ pub fn seventeen_stations(tally: &mut Tally) {
     assert_eq!(lent.nodes.len(), tables::nodes_len(17));
     assert_eq!(lent.channels.len(), tables::channels_len(17));
     compare_check(17, &lent, tally);
+    compare_questions(17, &lent, tally);
     compare_step(17, Event::Up { u: 1, v: 2 }, &lent, tally);
     compare_step(17, Event::Down { u: 1, v: 2 }, &lent, tally);
     compare_step(17, Event::Receipt { from: 1, to: 2 }, &lent, tally);
     compare_save(17, &lent, image::longest(17), &mut Random::new(17), tally);
     compare_fresh(17, lent, tally);
+}
+
+/// Tables of the same lengths that break the rules.
+fn all_ones(lent: &Tables) -> Tables {
+    Tables {
+        nodes: vec![u32::MAX; lent.nodes.len()],
+        channels: vec![u32::MAX; lent.channels.len()],
+    }
 }
 
 fn image_of(n: i64, sound: &Tables) -> Vec<u8> {

@@ -19,6 +19,7 @@ fn names() -> Vec<String> {
         "refusals",
         "malformed",
         "blocked",
+        "dead",
         "no_newline",
         "head_alone",
         "empty",

@@ -31,7 +31,7 @@ fn outcome(plot: Plot, event: Event) -> (i64, Option<Rule>) {
     (answer.number, answer.rule)
 }
 
-/// "j. Adopting depth 32,766 is accepted; 32,767 gives 8."
+/// Case j: depth 32,766 is adopted; 32,767: 8.
 #[test]
 fn j() {
     for (depth, expected) in [(32_766, (0, Some(Rule::A))), (32_767, (8, None))] {
@@ -44,7 +44,7 @@ fn j() {
     }
 }
 
-/// "k. Seven waiting: sent; eight: 9."
+/// Case k: seven wait: sent; eight: 9.
 #[test]
 fn k() {
     for (waiting, expected) in [(7, (0, Some(Rule::E))), (8, (9, None))] {
@@ -59,7 +59,7 @@ fn k() {
     }
 }
 
-/// "l. Clock 4,294,967,294: up accepted; one more: 7."
+/// Case l: up at clock 4,294,967,294; one later: 7.
 #[test]
 fn l() {
     let ends = [
@@ -82,7 +82,7 @@ fn size_of(plot: Plot) -> u64 {
     ffi::save(n, &lent.nodes, &lent.channels, &mut out).size
 }
 
-/// "m. n = 1 image: 192 bits, 24 bytes. Fresh n = 2: 552 bits, 69 bytes. n = 16 with every channel full: 34,044 bytes."
+/// Case m: 24 bytes for n = 1, 69 for a fresh plot of 2, 34,044 for 16 stations and full channels.
 #[test]
 fn m_sizes() {
     assert_eq!(size_of(Plot::fresh(1)), 24);
@@ -102,7 +102,7 @@ fn m_sizes() {
     assert_eq!(ffi::image_len(16), 34_044);
 }
 
-/// "n = 4, station 3 starts at bit 928; place 927 or 929 gives 13."
+/// Case m: of 4 stations, 3 starts at bit 928; 927 and 929: 13.
 #[test]
 fn m_places() {
     let mut random = Random::new(1);

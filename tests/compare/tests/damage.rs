@@ -16,6 +16,8 @@ fn tables() {
         "save 2",
     ]);
     tally.assert_met(&["up U", "down Q", "receipt Q", "save 0", "save 14"]);
+    tally.assert_met(&["quiet 0", "groups 0", "quiet 2", "groups 2"]);
+    tally.assert_met(&["group of 2", "group of 2 before 3", "group of 3"]);
 }
 
 #[test]
@@ -25,6 +27,7 @@ fn images() {
     tally.assert_met(&["restore 10", "restore 11", "restore 12"]);
     tally.assert_met(&["look 0", "look 1", "look 2", "look 3"]);
     tally.assert_met(&["look 10", "look 11", "look 12", "look 13"]);
+    tally.assert_met(&["stations 0", "stations 10", "stations 11"]);
 }
 
 #[test]
@@ -36,6 +39,14 @@ fn sizes() {
     tally.assert_met(&["check 0", "check 1", "up 1", "down 1", "receipt 1"]);
     tally.assert_met(&["save 0", "save 1", "restore 0", "restore 1"]);
     tally.assert_met(&["fresh 0", "fresh 1"]);
+    tally.assert_met(&["quiet 0", "quiet 1", "quiet 2"]);
+    tally.assert_met(&["groups 0", "groups 1", "groups 2"]);
+    tally.assert_met(&[
+        "group of 1",
+        "group of 1 before 3",
+        "group of 2",
+        "group of 3",
+    ]);
 }
 
 #[test]
@@ -44,6 +55,7 @@ fn seventeen_stations() {
     sizes::seventeen_stations(&mut tally);
     tally.assert_met(&["check 1", "up 1", "down 1", "receipt 1"]);
     tally.assert_met(&["save 1", "fresh 1"]);
+    tally.assert_met(&["quiet 1", "groups 1", "group of 1", "group of 1 before 3"]);
 }
 
 #[test]

@@ -22,6 +22,20 @@ const RULES: [&str; 12] = [
     "receipt R",
 ];
 
+/// What the questions meet along histories.
+const ASKED: [&str; 10] = [
+    "quiet 0",
+    "groups 0",
+    "group of 3",
+    "group of 0, collectors: none",
+    "group of 0, collectors: one",
+    "group of 0, collectors: several",
+    "asked: quiet",
+    "asked: only messages wait",
+    "asked: only channels one way",
+    "asked: a channel one way between groups",
+];
+
 /// From the fresh plots of 1 to 16 stations, with saves and resumes between, and demand 3 on every quiet network met.
 #[test]
 fn fresh_histories() {
@@ -38,6 +52,7 @@ fn fresh_histories() {
         "quiet groups of 2 to 4",
         "quiet groups of 5 to 16",
     ]);
+    tally.assert_met(&ASKED);
 }
 
 /// From planted plots: clocks and depths at their ends and full channels.
@@ -49,6 +64,7 @@ fn planted_histories() {
     tally.assert_met(&["up 4", "down 5", "receipt 6"]);
     tally.assert_met(&["up 7", "down 7", "receipt 7"]);
     tally.assert_met(&["receipt 8", "down 9", "receipt 9"]);
+    tally.assert_met(&ASKED);
 }
 
 /// n = 3, station 1 linked to 2 and 3; a down of 3 leaves it a sink, or alone.
@@ -64,7 +80,7 @@ fn about_to_lose_3(own: [i64; 7], clock: i64, views: &[[i64; 7]]) -> Beside {
     Beside::planted(plot)
 }
 
-/// "After E, S, F, P or A … the new height goes to all of N and F", even where it is the old one.
+/// Document 01, 4.22: E, S, F, P and A send the height even where it is the old one.
 #[test]
 fn a_height_that_stays_is_sent() {
     let mut tally = Tally::default();

@@ -27,6 +27,7 @@ fn some_places_of_large_images() {
 fn places_kept_while_the_header_changes() {
     let tally = run("changed headers", 500);
     tally.assert_met(&["look 0", "look 1", "look 3", "look 11", "look 12"]);
+    tally.assert_met(&["stations 0", "stations 11"]);
 }
 
 #[test]

@@ -6,11 +6,10 @@ use crate::step::{Answer, Event, step};
 use crate::tables::is_station_count;
 use std::fmt::Write;
 
-/// "Reads standard input, at most 65,536 bytes."
+/// 01, 8.1: standard input and its 65,536 bytes.
 pub const MOST_INPUT: usize = 65_536;
 
-/// The whole output; "A first line not of that form with n from 1 to 16, or longer input, prints
-/// only "bad plot" and a newline."
+/// The whole output; `bad plot` alone where the first line or the length is wrong (01, 8.8).
 pub fn listing(input: &[u8]) -> Vec<u8> {
     let lines = lines(input);
     let count = lines.first().and_then(|line| station_count(line));
@@ -21,7 +20,7 @@ pub fn listing(input: &[u8]) -> Vec<u8> {
     text.into_bytes()
 }
 
-/// The lines without their newlines; "The last line may lack its newline."
+/// The lines without their newlines; behind the last one it may be missing (01, 8.6).
 fn lines(input: &[u8]) -> Vec<&[u8]> {
     let mut pieces: Vec<&[u8]> = input.split(|byte| *byte == b'\n').collect();
     if pieces.last().is_some_and(|piece| piece.is_empty()) {
@@ -30,7 +29,7 @@ fn lines(input: &[u8]) -> Vec<&[u8]> {
     pieces
 }
 
-/// "First line "N n"", "with n from 1 to 16".
+/// 01, 8.2: `N n`, n from 1 to 16.
 fn station_count(line: &[u8]) -> Option<i64> {
     let pieces: Vec<&[u8]> = line.split(|byte| *byte == b' ').collect();
     match pieces[..] {
@@ -39,7 +38,8 @@ fn station_count(line: &[u8]) -> Option<i64> {
     }
 }
 
-/// ""U u v", "D u v" or "M u v" (receipt at v from u), single spaces". None if malformed.
+/// 01, 8.3 and 8.4: `U`, `D` or `M` and two numbers, of which `M` names the sender first. None if
+/// malformed.
 fn event(line: &[u8]) -> Option<Event> {
     let pieces: Vec<&[u8]> = line.split(|byte| *byte == b' ').collect();
     let [letter, u, v] = pieces[..] else {
@@ -54,7 +54,7 @@ fn event(line: &[u8]) -> Option<Event> {
     }
 }
 
-/// "numbers of one or two digits without a leading zero, 0 itself allowed".
+/// 01, 8.5: how numbers are written.
 fn number(piece: &[u8]) -> Option<i64> {
     match *piece {
         [digit @ b'0'..=b'9'] => Some(i64::from(digit - b'0')),
@@ -65,7 +65,7 @@ fn number(piece: &[u8]) -> Option<i64> {
     }
 }
 
-/// The answer to one line; "A malformed event line prints 15, rule -, sent 0".
+/// The answer to one line, malformed ones included (01, 8.7).
 fn answer(plot: &mut Plot, line: &[u8]) -> Answer {
     match event(line) {
         Some(event) => step(plot, event),
@@ -73,8 +73,7 @@ fn answer(plot: &mut Plot, line: &[u8]) -> Answer {
     }
 }
 
-/// "each event line gives its number, returned number, rule (or -), messages sent; then each
-/// station's number, its own height's leader, its clock; every line ends with a newline".
+/// 01, 8.10 to 8.12: a line for each event, a line for each station.
 fn run(n: i64, lines: &[&[u8]]) -> String {
     let mut plot = Plot::fresh(n);
     let mut text = String::from("event code rule sent\n");

@@ -1,14 +1,13 @@
-//! Document 01, "The plot image": "Bit-packed, most significant bit first", for reading and
-//! writing.
+//! Document 01, "The plot image": bits in order, the highest of a number first (6.1), for reading
+//! and writing.
 
 use crate::plot::{Height, Message};
 use crate::refusal::Refusal;
 
-/// "Height, 96 bits: τ 32, originator 5, bit 1, depth 16 in two's complement, election time
-/// without its sign 32, leader 5, station 5."
+/// 01, 6.8, a height: 32, 5, 1, 16, 32, 5, 5.
 const HEIGHT_WIDTHS: [usize; 7] = [32, 5, 1, 16, 32, 5, 5];
 
-/// "A reader keeps the image and its bit place together."
+/// 01, 6.22: bytes and bit place in one.
 pub(crate) struct Reader<'a> {
     image: &'a [u8],
     place: usize,
@@ -20,12 +19,12 @@ impl<'a> Reader<'a> {
         Reader { image, place: 0 }
     }
 
-    /// The bit at a place inside the image, "most significant bit first".
+    /// The bit at a place inside the image, the highest of a byte first (01, 6.1).
     fn bit(&self, place: usize) -> i64 {
         i64::from(self.image[place / 8] >> (7 - place % 8) & 1)
     }
 
-    /// The next `width` bits as a number; "an end met too early gives 12".
+    /// The next `width` bits as a number; 12 where the image has no more (01, 6.13).
     pub(crate) fn take(&mut self, width: usize) -> Result<i64, Refusal> {
         let end = self.place + width;
         if end > self.image.len() * 8 {
@@ -36,7 +35,7 @@ impl<'a> Reader<'a> {
         Ok(number)
     }
 
-    /// "Height, 96 bits", whatever its numbers are.
+    /// 01, 6.8: a height, whatever its numbers are.
     pub(crate) fn take_height(&mut self) -> Result<Height, Refusal> {
         let mut numbers = [0; 7];
         for (number, width) in numbers.iter_mut().zip(HEIGHT_WIDTHS) {
@@ -49,7 +48,7 @@ impl<'a> Reader<'a> {
         Ok(Height::of(numbers))
     }
 
-    /// "messages of 128 bits, height then stamp".
+    /// 01, 6.5 and 6.6: a message of 128 bits, the stamp behind the height.
     pub(crate) fn take_message(&mut self) -> Result<Message, Refusal> {
         Ok(Message {
             height: self.take_height()?,
@@ -57,7 +56,7 @@ impl<'a> Reader<'a> {
         })
     }
 
-    /// "then left bytes and pad (12)"; "Zero bits to the byte's end."
+    /// 01, 6.14 and 6.7: what stands behind the walk, 12.
     pub(crate) fn finish(&self) -> Result<(), Refusal> {
         let end = self.image.len() * 8;
         let whole = end - self.place < 8;
@@ -81,8 +80,8 @@ impl Writer {
         }
     }
 
-    /// The last `width` bits of the number, "most significant bit first", "in two's complement"
-    /// if negative.
+    /// The last `width` bits of the number, the highest first (01, 6.1), in two's complement if
+    /// negative.
     pub(crate) fn put(&mut self, number: i64, width: usize) {
         for shift in (0..width).rev() {
             if self.place.is_multiple_of(8) {
@@ -95,7 +94,7 @@ impl Writer {
         }
     }
 
-    /// "Height, 96 bits"; "An absent view is 96 zero bits."
+    /// 01, 6.8 and 6.9: a height, or zeros for a view that is not there.
     pub(crate) fn put_height(&mut self, height: Option<&Height>) {
         let numbers = height.map_or([0; 7], numbers_of);
         for (number, width) in numbers.into_iter().zip(HEIGHT_WIDTHS) {
@@ -103,19 +102,19 @@ impl Writer {
         }
     }
 
-    /// "messages of 128 bits, height then stamp".
+    /// 01, 6.5 and 6.6: a message of 128 bits, the stamp behind the height.
     pub(crate) fn put_message(&mut self, message: &Message) {
         self.put_height(Some(&message.height));
         self.put(message.stamp, 32);
     }
 
-    /// The bytes, with "Zero bits to the byte's end."
+    /// The bytes, the last one filled with zeros (01, 6.7).
     pub(crate) fn finish(self) -> Vec<u8> {
         self.bytes
     }
 }
 
-/// The seven numbers of a height in the image's order, the "election time without its sign".
+/// The seven numbers of a height in the image's order, the election time as a positive number.
 fn numbers_of(height: &Height) -> [i64; 7] {
     [
         height.level.tau,

@@ -4,7 +4,7 @@ use crate::plot::Level;
 use crate::refusal::Refusal;
 use std::collections::BTreeSet;
 
-/// "Up (u, v)", "Down (u, v)", "Receipt (v to u)": the three events.
+/// The three events: up (01, 4.4), down (4.5), receipt (4.11).
 #[derive(Clone, Copy, Debug, PartialEq, Eq)]
 pub enum Event {
     Up { u: i64, v: i64 },
@@ -26,8 +26,8 @@ pub enum Rule {
     R,
 }
 
-/// "An accepted event answers 0, the rule, and the set sent to; for A the answer carries the
-/// station adopted from, for P the level taken." A refused one carries its number, 2 also u and v.
+/// 01, 4.25 and 4.26: number, rule and set, and what A and P carry. A refused one carries its number,
+/// 2 also u and v.
 #[derive(Clone, Debug, PartialEq, Eq)]
 pub struct Answer {
     pub number: i64,
@@ -47,7 +47,7 @@ impl Event {
         }
     }
 
-    /// "Every accepted event at a station first moves its clock": that station.
+    /// The station whose clock the event moves (01, 3.1).
     pub fn at(self) -> i64 {
         match self {
             Event::Up { u, .. } | Event::Down { u, .. } => u,
@@ -74,7 +74,7 @@ impl Rule {
 }
 
 impl Answer {
-    /// The answer to a refused event: "Returned", and for 2 "with u and v".
+    /// The answer to a refused event: its number, and for 2 the pair (01, 5.4).
     pub fn refused(refusal: Refusal) -> Answer {
         Answer {
             number: refusal.number(),
@@ -86,12 +86,12 @@ impl Answer {
         }
     }
 
-    /// "rule (or -)".
+    /// The rule's letter, or - (01, 8.10).
     pub fn letter(&self) -> char {
         self.rule.map_or('-', Rule::letter)
     }
 
-    /// "An accepted event answers 0, the rule, and the set sent to".
+    /// 01, 4.25: number 0, the rule and the set.
     pub(crate) fn accepted(rule: Rule, sent_to: BTreeSet<i64>) -> Answer {
         Answer {
             number: 0,

@@ -9,16 +9,16 @@ use crate::tables::{
 };
 use std::collections::BTreeSet;
 
-/// "Header, 32 bits: version 4, header length in bits 12, n 5, spare 11."
+/// 01, 6.2, the header: 4, 12, 5, 11.
 pub const HEADER_BITS: i64 = 32;
 
-/// "version not 1" is refused.
+/// The one version that is read (01, 5.13).
 const VERSION: i64 = 1;
 
-/// "image under 4 bytes" is refused.
+/// The shortest image that is looked at, in bytes (01, 5.12).
 const HEADER_BYTES: usize = 4;
 
-/// What a look answers: "it answers the clock and both sets and fills a lent row of n heights".
+/// What a look answers and fills (01, 6.17).
 #[derive(Clone, Debug, PartialEq, Eq)]
 pub struct Look {
     pub clock: u32,
@@ -27,25 +27,24 @@ pub struct Look {
     pub row: Vec<u32>,
 }
 
-/// "64 + 96 times n bits each."
+/// 01, 6.4: a station's 64 + 96 n bits.
 fn station_bits(n: i64) -> i64 {
     64 + 96 * n
 }
 
-/// "Station k starts at header length + (k − 1) times (64 + 96 times n)."
+/// 01, 6.11: where station k starts.
 pub fn place_of(n: i64, k: i64) -> i64 {
     HEADER_BITS + (k - 1) * station_bits(n)
 }
 
-/// The bytes of an image "with every channel full": "count 4, then its messages of 128 bits", 8 of
-/// them, for each ordered pair, and "Zero bits to the byte's end."
+/// The bytes of an image with 8 messages on every channel (01, 9.17), by the sizes of 6.5 and 6.7.
 pub fn longest(n: i64) -> usize {
     let channel = 4 + MOST_WAITING as i64 * 128;
     let bits = HEADER_BITS + n * station_bits(n) + n * (n - 1) * channel;
     usize::try_from((bits + 7) / 8).unwrap_or(0)
 }
 
-/// "Bit-packed, most significant bit first, in this order": header, stations, channels, zero bits.
+/// 01, 6.1: header, stations, channels, zero bits.
 pub fn write(plot: &Plot) -> Vec<u8> {
     let mut writer = Writer::new();
     writer.put(VERSION, 4);
@@ -63,7 +62,7 @@ pub fn write(plot: &Plot) -> Vec<u8> {
     writer.finish()
 }
 
-/// "Stations 1 to n: clock 32, N 16, F 16, then n heights by station."
+/// 01, 6.3, a station: 32, 16, 16, its heights.
 fn write_station(writer: &mut Writer, plot: &Plot, u: i64) {
     let station = plot.station(u);
     let linked: BTreeSet<i64> = station.linked.keys().copied().collect();
@@ -76,7 +75,7 @@ fn write_station(writer: &mut Writer, plot: &Plot, u: i64) {
     }
 }
 
-/// "Writing checks 1, 2, 14; bytes past the image are not touched." The answer is the image alone.
+/// 01, 6.23 and 6.24: the checks of writing. The answer is the image alone.
 pub fn save(n: i64, nodes: &[u32], channels: &[u32], room: usize) -> Result<Vec<u8>, Refusal> {
     let image = write(&load(n, nodes, channels)?);
     if image.len() > room {
@@ -85,7 +84,7 @@ pub fn save(n: i64, nodes: &[u32], channels: &[u32], room: usize) -> Result<Vec<
     Ok(image)
 }
 
-/// "The header is taken apart first, and any other answer to it returns at once": n, or 10, or 11.
+/// 01, 6.19: the header first; n, or 10, or 11.
 pub fn header(image: &[u8]) -> Result<i64, Refusal> {
     if image.len() < HEADER_BYTES {
         return Err(Refusal::ImageShort);
@@ -99,9 +98,8 @@ pub fn header(image: &[u8]) -> Result<i64, Refusal> {
     good.then_some(n).ok_or(Refusal::ImageHeader)
 }
 
-/// "then walks stations and channel counts: a count above 8 gives 2 with its pair, an end met too
-/// early gives 12, whichever comes first on the walk; then left bytes and pad (12)". What it walks
-/// over is taken down as words, its contents not yet judged.
+/// 01, 6.12 to 6.14: the walk and the end. What it walks over is taken down as words, its contents
+/// not yet judged.
 fn walk(image: &[u8], n: i64) -> Result<Tables, Refusal> {
     let mut reader = Reader::new(image);
     reader.take(HEADER_BITS as usize)?;
@@ -119,7 +117,7 @@ fn walk(image: &[u8], n: i64) -> Result<Tables, Refusal> {
     Ok(Tables { nodes, channels })
 }
 
-/// "clock 32, N 16, F 16, then n heights by station."
+/// 01, 6.3, a station: 32, 16, 16, its heights.
 fn walk_station(reader: &mut Reader, n: i64, nodes: &mut Vec<u32>) -> Result<(), Refusal> {
     for width in [32, 16, 16] {
         nodes.push(reader.take(width)? as u32);
@@ -130,8 +128,7 @@ fn walk_station(reader: &mut Reader, n: i64, nodes: &mut Vec<u32>) -> Result<(),
     Ok(())
 }
 
-/// "Channels, u ascending, then v ascending, v ≠ u: count 4, then its messages of 128 bits"; "a
-/// count above 8 gives 2 with its pair". The image has nothing for v = u.
+/// 01, 6.5: the channels, each count judged where it stands (6.13). The image has nothing for v = u.
 fn walk_channel(reader: &mut Reader, u: i64, v: i64) -> Result<Vec<u32>, Refusal> {
     let mut cell = vec![0];
     if u != v {
@@ -150,22 +147,20 @@ fn walk_channel(reader: &mut Reader, u: i64, v: i64) -> Result<Vec<u32>, Refusal
     Ok(cell)
 }
 
-/// The walk, "then contents (2)": the rules and the order of faults are those of the tables.
+/// The walk, then the contents (01, 6.15): rules and order of faults are those of the tables.
 fn read_plot(image: &[u8], n: i64) -> Result<Plot, Refusal> {
     let tables = walk(image, n)?;
     load(n, &tables.nodes, &tables.channels)
 }
 
-/// "To resume a plot is to read a whole image into its tables"; "Tables [..] of a wrong length
-/// give 1 straight after 11, before the walk."
+/// 01, 6.20: a resume; 6.18: tables of another length.
 pub fn resume(image: &[u8], nodes_len: usize, channels_len: usize) -> Result<Plot, Refusal> {
     let n = header(image)?;
     check_sizes(n, nodes_len, channels_len)?;
     read_plot(image, n)
 }
 
-/// "Reading one station at a saved place checks all that, then 3, then 13; it answers the clock
-/// and both sets and fills a lent row of n heights (1 if not n long)."
+/// 01, 6.16 and 6.17: a look, its checks and its answer.
 pub fn look(image: &[u8], k: i64, place: u64, row_len: usize) -> Result<Look, Refusal> {
     let n = header(image)?;
     if row_len != tables::row_len(n) {
@@ -181,7 +176,7 @@ pub fn look(image: &[u8], k: i64, place: u64, row_len: usize) -> Result<Look, Re
     Ok(look_at(&plot, k))
 }
 
-/// What is seen of one station: "only looked at, enters no plot's tables and is no resume".
+/// What is seen of one station, which enters no tables (01, 6.21).
 fn look_at(plot: &Plot, k: i64) -> Look {
     let station = plot.station(k);
     let linked: BTreeSet<i64> = station.linked.keys().copied().collect();

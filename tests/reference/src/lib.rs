@@ -1,6 +1,7 @@
-//! Document 01, "The band plot election": the step of the plot, the packed image of a plot and
-//! the bench program, said again with maps, sets, lists and wide signed numbers. It shares nothing
-//! with the implementation it is compared with; READINGS.md has its readings of unclear points.
+//! Document 01, step, image and bench (1.3), said again with maps, sets, lists and wide signed
+//! numbers. It shares nothing with the implementation it is compared with; READINGS.md has its
+//! readings of unclear points. "01, 4.13" is that sentence of document 01 as docs/TRACEABILITY.md
+//! numbers them.
 //!
 //! | Module | Section of document 01 |
 //! |---|---|
@@ -26,6 +27,8 @@ mod sound;
 pub mod step;
 pub mod tables;
 
+#[cfg(test)]
+mod worked_groups;
 #[cfg(test)]
 mod worked_images;
 #[cfg(test)]

@@ -2,23 +2,22 @@
 
 use std::collections::{BTreeMap, BTreeSet, VecDeque};
 
-/// "A plot has n stations, n from 1 to 16, numbered 1 to n."
+/// 01, 1.1: the number of stations.
 pub const MOST_STATIONS: i64 = 16;
 
-/// "Clock: 0 to 4,294,967,295."
+/// 01, 2.1: the clock's range.
 pub const LAST_CLOCK: i64 = 4_294_967_295;
 
-/// "depth, signed, −32,768 to 32,767"
+/// 01, 2.12: the depth's range.
 pub const LEAST_DEPTH: i64 = -32_768;
 
-/// "depth, signed, −32,768 to 32,767"
+/// 01, 2.12: the depth's range.
 pub const MOST_DEPTH: i64 = 32_767;
 
-/// "It holds 0 to 8 messages, first in, first out."
+/// 01, 2.25 and 2.26: at most 8, the oldest first.
 pub const MOST_WAITING: usize = 8;
 
-/// "τ, originator and bit form the reference level"; ordered "lexicographically in this order, as
-/// signed numbers".
+/// 01, 2.16: a level; its order is that of the fields (2.18).
 #[derive(Clone, Copy, Debug, PartialEq, Eq, PartialOrd, Ord)]
 pub struct Level {
     pub tau: i64,
@@ -26,17 +25,14 @@ pub struct Level {
     pub bit: i64,
 }
 
-/// "negated election time and leader form the leader pair"; "A smaller pair is the more recent
-/// election and wins."
+/// 01, 2.16: a leader pair; of two, the smaller wins (2.19).
 #[derive(Clone, Copy, Debug, PartialEq, Eq, PartialOrd, Ord)]
 pub struct Pair {
     pub negated_time: i64,
     pub leader: i64,
 }
 
-/// "A height is seven numbers: search time τ; originator 0 to n; reflection bit 0 or 1; depth
-/// [..]; negated election time; leader 1 to n; station, the one it belongs to." The fields stand
-/// in the order of comparison.
+/// 01, 2.8 to 2.15: the seven numbers. The fields stand in the order of comparison.
 #[derive(Clone, Copy, Debug, PartialEq, Eq, PartialOrd, Ord)]
 pub struct Height {
     pub level: Level,
@@ -45,15 +41,14 @@ pub struct Height {
     pub station: i64,
 }
 
-/// "A message is the sender's height and a stamp, the sender's clock when it was sent".
+/// 01, 2.27: height and stamp.
 #[derive(Clone, Copy, Debug, PartialEq, Eq)]
 pub struct Message {
     pub height: Height,
     pub stamp: i64,
 }
 
-/// "Clock", "Linked set N and forming set F", "A height for itself, and its view of each member
-/// of N." N is the set of keys of `linked`.
+/// 01, 2.1, 2.2 and 2.6: clock, sets, own height and views. N is the set of keys of `linked`.
 #[derive(Clone, Debug, PartialEq, Eq)]
 pub struct Station {
     pub clock: i64,
@@ -62,8 +57,8 @@ pub struct Station {
     pub own: Height,
 }
 
-/// "A plot has n stations [..]. There is one channel for each ordered pair." Every key is
-/// present, also for channels that are empty or down.
+/// 01, 1.1 and 1.2: the stations and a channel for each ordered pair. Every key is present, also for
+/// channels that are empty or down.
 #[derive(Clone, Debug, PartialEq, Eq)]
 pub struct Plot {
     pub n: i64,
@@ -71,7 +66,7 @@ pub struct Plot {
     pub channels: BTreeMap<(i64, i64), VecDeque<Message>>,
 }
 
-/// "τ is 0 exactly when the originator is 0, and then the bit is 0."
+/// 01, 2.17: no search.
 pub const NO_SEARCH: Level = Level {
     tau: 0,
     originator: 0,
@@ -79,8 +74,7 @@ pub const NO_SEARCH: Level = Level {
 };
 
 impl Level {
-    /// "originator 0 to n; reflection bit 0 or 1"; "τ is 0 exactly when the originator is 0, and
-    /// then the bit is 0."
+    /// 01, 2.10, 2.11 and 2.17: what a level has to obey.
     fn obeys(&self, n: i64) -> bool {
         let in_range = (0..=LAST_CLOCK).contains(&self.tau)
             && (0..=n).contains(&self.originator)
@@ -91,14 +85,14 @@ impl Level {
 }
 
 impl Pair {
-    /// "the other falls, from 0 down to −4,294,967,295"; "leader 1 to n".
+    /// 01, 2.20 and 2.14: the ranges of negated time and leader.
     fn obeys(&self, n: i64) -> bool {
         (-LAST_CLOCK..=0).contains(&self.negated_time) && (1..=n).contains(&self.leader)
     }
 }
 
 impl Height {
-    /// "Heights as (τ, originator, bit, depth; negated time, leader; station)."
+    /// 01, 9.2: a height as it is written.
     pub fn of(numbers: [i64; 7]) -> Height {
         let [tau, originator, bit, depth, negated_time, leader, station] = numbers;
         Height {
@@ -116,12 +110,12 @@ impl Height {
         }
     }
 
-    /// "u elects itself, height (0, 0, 0, 0, −T, u, u)"; fresh: "(0, 0, 0, 0, 0, k, k)".
+    /// 01, 4.7: (0, 0, 0, 0, −T, u, u); in the fresh plot with time 0 (2.30).
     pub fn of_collector(k: i64, negated_time: i64) -> Height {
         Height::of([0, 0, 0, 0, negated_time, k, k])
     }
 
-    /// The seven ranges of a height in a plot of n stations; "station, the one it belongs to".
+    /// The seven ranges of a height in a plot of n stations, and whose it has to be (01, 2.15).
     pub(crate) fn obeys(&self, n: i64, station: i64) -> bool {
         self.level.obeys(n)
             && (LEAST_DEPTH..=MOST_DEPTH).contains(&self.depth)
@@ -131,24 +125,23 @@ impl Height {
 }
 
 impl Station {
-    /// Whether v is "in N or F of u".
+    /// Whether v is in one of the sets (01, 2.24).
     pub fn knows(&self, v: i64) -> bool {
         self.linked.contains_key(&v) || self.forming.contains(&v)
     }
 
-    /// "all of N and F".
+    /// N and F together (01, 4.22).
     pub fn everyone(&self) -> BTreeSet<i64> {
         let linked = self.linked.keys().copied();
         linked.chain(self.forming.iter().copied()).collect()
     }
 
-    /// "A station is a collector if its own height's leader is itself."
+    /// 01, 2.21: who is a collector.
     pub fn is_collector(&self) -> bool {
         self.own.pair.leader == self.own.station
     }
 
-    /// A station of the fresh plot: "clocks 0, sets empty, [..] station k's height
-    /// (0, 0, 0, 0, 0, k, k)".
+    /// A station of the fresh plot (01, 2.30).
     fn fresh(k: i64) -> Station {
         Station {
             clock: 0,
@@ -160,7 +153,7 @@ impl Station {
 }
 
 impl Plot {
-    /// "A fresh plot: clocks 0, sets empty, no messages, station k's height (0, 0, 0, 0, 0, k, k)."
+    /// 01, 2.30: the fresh plot.
     pub fn fresh(n: i64) -> Plot {
         Plot {
             n,
@@ -172,12 +165,12 @@ impl Plot {
         }
     }
 
-    /// "stations [..] numbered 1 to n": station k, which has to be one of them.
+    /// Station k, which has to be one of 1 to n (01, 1.1).
     pub fn station(&self, k: i64) -> &Station {
         &self.stations[&k]
     }
 
-    /// The messages on channel u to v, "first in, first out": the oldest at the front.
+    /// The messages on channel u to v: the oldest at the front (01, 2.26).
     pub fn waiting(&self, u: i64, v: i64) -> &VecDeque<Message> {
         &self.channels[&(u, v)]
     }
@@ -189,20 +182,20 @@ impl Plot {
             .expect("a channel for each ordered pair")
     }
 
-    /// "Channel u to v is up exactly when v is in N or F of u."
+    /// 01, 2.24: when a channel is up.
     pub fn is_up(&self, u: i64, v: i64) -> bool {
         self.stations
             .get(&u)
             .is_some_and(|station| station.knows(v))
     }
 
-    /// "Two stations are linked if both channels between them are up".
+    /// 01, 2.22: when two stations are linked.
     pub fn are_linked(&self, u: i64, v: i64) -> bool {
         self.is_up(u, v) && self.is_up(v, u)
     }
 }
 
-/// "Channels, u ascending, then v ascending, v ≠ u".
+/// The ordered pairs in the image's order (01, 6.5).
 pub fn ordered_pairs(n: i64) -> Vec<(i64, i64)> {
     (1..=n)
         .flat_map(|u| (1..=n).map(move |v| (u, v)))

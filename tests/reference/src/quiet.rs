@@ -2,19 +2,33 @@
 //! what demand 3 says of a quiet plot. READINGS.md tells what "quiet" is taken to be.
 
 use crate::plot::{Plot, ordered_pairs};
+use crate::refusal::Refusal;
 use std::collections::BTreeSet;
 
-/// The premise of demand 3, "quiet after a list of calls", from its two measures "channel u to v
-/// is up" and "The messages waiting on it": no message waits on any channel, and between any two
-/// stations both channels are up or both are down.
+/// What is told of one station's group: its members, and those of them that are collectors.
+#[derive(Clone, Debug, PartialEq, Eq)]
+pub struct Group {
+    pub members: BTreeSet<i64>,
+    pub collectors: BTreeSet<i64>,
+}
+
+impl Group {
+    /// The collector, where there is one and no second.
+    pub fn collector(&self) -> Option<i64> {
+        let first = self.collectors.first().copied();
+        first.filter(|_| self.collectors.len() == 1)
+    }
+}
+
+/// The premise of demand 3, from its two measures (01, 7.8 and 7.9): no message waits on any channel,
+/// and between any two stations both channels are up or both are down.
 pub fn is_quiet(plot: &Plot) -> bool {
     ordered_pairs(plot.n)
         .into_iter()
         .all(|(u, v)| plot.waiting(u, v).is_empty() && plot.is_up(u, v) == plot.is_up(v, u))
 }
 
-/// "a group is a largest set joined by such links"; "A station without links is a group alone."
-/// The groups stand by their smallest members, ascending.
+/// 01, 2.23 and 7.12: the groups, by their smallest members, ascending.
 pub fn groups(plot: &Plot) -> Vec<BTreeSet<i64>> {
     let mut found: Vec<BTreeSet<i64>> = Vec::new();
     for start in 1..=plot.n {
@@ -23,6 +37,25 @@ pub fn groups(plot: &Plot) -> Vec<BTreeSet<i64>> {
         }
     }
     found
+}
+
+/// The smallest member of each group.
+pub fn lowest_members(plot: &Plot) -> BTreeSet<i64> {
+    let groups = groups(plot);
+    groups.iter().filter_map(BTreeSet::first).copied().collect()
+}
+
+/// The group that station u is in (01, 2.23), or 3 for a number that is no station's (01, 5.5). The
+/// checks 1 and 2 come before: they are those of `load`.
+pub fn group_of(plot: &Plot, u: i64) -> Result<Group, Refusal> {
+    let mut all = groups(plot).into_iter();
+    let members = all.find(|group| group.contains(&u));
+    let members = members.ok_or(Refusal::Station)?;
+    let collectors = collectors(plot, &members).into_iter().collect();
+    Ok(Group {
+        members,
+        collectors,
+    })
 }
 
 /// The stations met from `start`, it included, by steps that are allowed.
@@ -39,7 +72,7 @@ fn reached(plot: &Plot, start: i64, allowed: impl Fn(i64, i64) -> bool) -> BTree
     met
 }
 
-/// "A station is a collector if its own height's leader is itself.": those of a group, ascending.
+/// 01, 2.21: the collectors of a group, ascending.
 pub fn collectors(plot: &Plot, group: &BTreeSet<i64>) -> Vec<i64> {
     let members = group.iter().copied();
     members
@@ -47,15 +80,13 @@ pub fn collectors(plot: &Plot, group: &BTreeSet<i64>) -> Vec<i64> {
         .collect()
 }
 
-/// "A chain is a row of members, each linked to the next and of greater own height than the
-/// next.": whether one leads from `start` to `end`. A station alone is such a row.
+/// 01, 7.13: whether a chain leads from `start` to `end`. A station alone is such a row.
 pub fn chain_falls(plot: &Plot, start: i64, end: i64) -> bool {
     let falls = |u: i64, v: i64| plot.are_linked(u, v) && plot.station(u).own > plot.station(v).own;
     reached(plot, start, falls).contains(&end)
 }
 
-/// The claim of demand 3: "exactly one collector in each linked group, with a strictly falling
-/// chain to it from every member".
+/// The claim of demand 3: one collector in each group and no second, and falling chains to it.
 pub fn settled(plot: &Plot) -> Result<(), String> {
     for group in groups(plot) {
         let found = collectors(plot, &group);

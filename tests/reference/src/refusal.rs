@@ -1,44 +1,43 @@
 //! Document 01, "Returned numbers": the fifteen refusals.
 
-/// The rows of the table "Returned | When, and only then | After it", in its order. After each of
-/// them "nothing lent changes".
+/// The rows of the table, in its order (01, 5.3 to 5.17). After each of them nothing lent has changed
+/// (5.2).
 #[derive(Clone, Copy, Debug, PartialEq, Eq)]
 pub enum Refusal {
-    /// 1: "n outside 1 to 16, or a lent table not of the length for n"
+    /// 1: n, or the length of a lent table (01, 5.3)
     Sizes,
-    /// "2, with u and v": "tables or image break a rule of "What a station holds""
+    /// 2, with the pair: a broken rule (01, 5.4)
     Fault { u: i64, v: i64 },
-    /// 3: "a station number outside 1 to n, or u = v in an event"
+    /// 3: no such station, or one named twice (01, 5.5)
     Station,
-    /// 4: "up on a channel that is up"
+    /// 4: the channel was up already (01, 5.6)
     AlreadyUp,
-    /// 5: "down on a channel that is down"
+    /// 5: the channel was down already (01, 5.7)
     AlreadyDown,
-    /// 6: "receipt from a channel with no message"
+    /// 6: no message waits (01, 5.8)
     NoMessage,
-    /// 7: "the clock would pass its end"
+    /// 7: the clock is at its end (01, 5.9)
     ClockEnd,
-    /// 8: "rule A or P would take the depth out of range"
+    /// 8: the depth is at its end (01, 5.10)
     DepthEnd,
-    /// 9: "some channel to be sent on already holds 8"
+    /// 9: a full channel (01, 5.11)
     ChannelFull,
-    /// 10: "image under 4 bytes"
+    /// 10: below 4 bytes (01, 5.12)
     ImageShort,
-    /// 11: "version not 1, header length not 32, station count outside 1 to 16, or spare bits
-    /// not 0"
+    /// 11: the header (01, 5.13)
     ImageHeader,
-    /// 12: "image ends too early, has bytes left over, or pad bits not 0"
+    /// 12: end and pad (01, 5.14)
     ImageEnd,
-    /// 13: "the saved place is not where that station's record starts"
+    /// 13: the saved place (01, 5.15)
     Place,
-    /// 14: "output room too small"
+    /// 14: the room (01, 5.16)
     Room,
-    /// 15: "bench line malformed (program only)"
+    /// 15: a line of the bench (01, 5.17)
     BenchLine,
 }
 
 impl Refusal {
-    /// The column "Returned".
+    /// The number.
     pub fn number(self) -> i64 {
         match self {
             Refusal::Sizes => 1,
@@ -59,7 +58,7 @@ impl Refusal {
         }
     }
 
-    /// "2, with u and v": "The pair of refusal 2 is the first fault".
+    /// The pair of 2, the first fault (01, 5.19).
     pub fn pair(self) -> Option<(i64, i64)> {
         match self {
             Refusal::Fault { u, v } => Some((u, v)),

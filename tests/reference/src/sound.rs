@@ -1,5 +1,5 @@
-//! Document 01, "What a station holds" and, in "Returned numbers", the paragraph on "The pair of
-//! refusal 2": what each place (u, v) of the lent tables has to obey.
+//! Document 01, "What a station holds" and, in "Returned numbers", 5.19 to 5.23: what each place
+//! (u, v) of the lent tables has to obey.
 
 use crate::plot::{LAST_CLOCK, MOST_WAITING};
 use crate::refusal::Refusal;
@@ -7,8 +7,7 @@ use crate::tables::{
     MESSAGE_WORDS, cell_words, height_of_words, height_words, is_in, station_words,
 };
 
-/// "The pair of refusal 2 is the first fault, u ascending, then v ascending; the search stops
-/// there, out of both walks."
+/// 01, 5.19 and 5.20: the first faulty pair ends both walks.
 pub(crate) fn check_places(n: i64, nodes: &[u32], channels: &[u32]) -> Result<(), Refusal> {
     let places = (1..=n).flat_map(|u| (1..=n).map(move |v| (u, v)));
     for (u, v) in places {
@@ -28,12 +27,12 @@ pub(crate) fn check_places(n: i64, nodes: &[u32], channels: &[u32]) -> Result<()
     Ok(())
 }
 
-/// "Unused places in the lent tables are all zero."
+/// 01, 2.29: zeros in unused places.
 fn is_zero(words: &[u32]) -> bool {
     words.iter().all(|word| *word == 0)
 }
 
-/// "The place v = u covers the clock, both sets and the own height." Every word is a clock.
+/// 01, 5.21: what stands at the place v = u. Every word is a clock.
 fn own_place_is_sound(n: i64, u: i64, station: &[u32], own: &[u32]) -> bool {
     let (clock, linked, forming) = (station[0], station[1], station[2]);
     (0..=LAST_CLOCK).contains(&i64::from(clock))
@@ -43,7 +42,7 @@ fn own_place_is_sound(n: i64, u: i64, station: &[u32], own: &[u32]) -> bool {
         && height_of_words(own).obeys(n, u)
 }
 
-/// "the view of v (zero if v is not in N of u)".
+/// 01, 5.22: the view of v, or zeros.
 fn view_is_sound(n: i64, v: i64, in_linked: bool, view: &[u32]) -> bool {
     if in_linked {
         height_of_words(view).obeys(n, v)
@@ -52,7 +51,7 @@ fn view_is_sound(n: i64, v: i64, in_linked: bool, view: &[u32]) -> bool {
     }
 }
 
-/// "channel u to v: count, messages, unused places, and count 0 when down".
+/// 01, 5.23: the channel u to v.
 fn channel_is_sound(n: i64, u: i64, is_up: bool, cell: &[u32]) -> bool {
     let count = cell[0] as usize;
     if count > MOST_WAITING || (count > 0 && !is_up) {
@@ -63,8 +62,7 @@ fn channel_is_sound(n: i64, u: i64, is_up: bool, cell: &[u32]) -> bool {
     is_zero(unused) && messages.all(|message| message_is_sound(n, u, message))
 }
 
-/// "A message is the sender's height and a stamp [..]; its station number is the sender's." Every
-/// word is a stamp.
+/// 01, 2.27 and 2.28: a message. Every word is a stamp.
 fn message_is_sound(n: i64, sender: i64, message: &[u32]) -> bool {
     height_of_words(message).obeys(n, sender)
 }

@@ -14,8 +14,7 @@ struct Outcome {
     answer: Answer,
 }
 
-/// "A step checks in the order [..] 3, then 4, 5 or 6, then 7, 8, 9." After a refusal "nothing
-/// lent changes".
+/// 01, 5.18 from 3 on: the order of the checks. A refusal changes nothing lent (5.2).
 pub fn step(plot: &mut Plot, event: Event) -> Answer {
     match decide(plot, event) {
         Ok(outcome) => carry_out(plot, event, outcome),
@@ -37,15 +36,14 @@ fn decide(plot: &Plot, event: Event) -> Result<Outcome, Refusal> {
     Ok(outcome)
 }
 
-/// 3: "a station number outside 1 to n, or u = v in an event".
+/// 3: no such station, or one named twice (01, 5.5).
 fn check_numbers(n: i64, event: Event) -> Result<(), Refusal> {
     let (u, v) = event.stations();
     let good = (1..=n).contains(&u) && (1..=n).contains(&v) && u != v;
     good.then_some(()).ok_or(Refusal::Station)
 }
 
-/// 4: "up on a channel that is up"; 5: "down on a channel that is down"; 6: "receipt from a
-/// channel with no message".
+/// 4, 5, 6: already up, already down, no message waits (01, 5.6 to 5.8).
 fn check_channel(plot: &Plot, event: Event) -> Result<(), Refusal> {
     match event {
         Event::Up { u, v } if plot.is_up(u, v) => Err(Refusal::AlreadyUp),
@@ -55,7 +53,7 @@ fn check_channel(plot: &Plot, event: Event) -> Result<(), Refusal> {
     }
 }
 
-/// 9: "some channel to be sent on already holds 8".
+/// 9: a full channel (01, 5.11).
 fn check_room(plot: &Plot, u: i64, sent_to: &BTreeSet<i64>) -> Result<(), Refusal> {
     let full = sent_to
         .iter()
@@ -67,7 +65,7 @@ fn check_room(plot: &Plot, u: i64, sent_to: &BTreeSet<i64>) -> Result<(), Refusa
     }
 }
 
-/// "to one more than the larger of its clock and the stamp"; 7: "the clock would pass its end".
+/// 01, 3.2: past clock and stamp; 7 at the clock's end (5.9).
 fn clock_after(clock: i64, stamp: i64) -> Result<i64, Refusal> {
     let moved = clock.max(stamp) + 1;
     if moved > LAST_CLOCK {
@@ -77,19 +75,18 @@ fn clock_after(clock: i64, stamp: i64) -> Result<i64, Refusal> {
     }
 }
 
-/// "by one for up, down and an ignored message".
+/// 01, 3.1: one step on.
 fn clock_by_one(clock: i64) -> Result<i64, Refusal> {
     clock_after(clock, clock)
 }
 
-/// 8: "rule A or P would take the depth out of range".
+/// 8: the depth is at its end (01, 5.10).
 fn depth_in_range(depth: i64) -> Result<i64, Refusal> {
     let good = (LEAST_DEPTH..=MOST_DEPTH).contains(&depth);
     good.then_some(depth).ok_or(Refusal::DepthEnd)
 }
 
-/// "A station u is a sink if every view in N has u's leader pair, every view in N is greater than
-/// u's height, and u's leader is not u."
+/// 01, 4.1 to 4.3: the sink test.
 pub fn is_sink(station: &Station) -> bool {
     let own = &station.own;
     let views = || station.linked.values();
@@ -98,7 +95,7 @@ pub fn is_sink(station: &Station) -> bool {
         && !station.is_collector()
 }
 
-/// "Up (u, v): v joins F; u sends its height to v. Rule U."
+/// 01, 4.4: rule U.
 fn up(mut station: Station, v: i64) -> Result<Outcome, Refusal> {
     station.clock = clock_by_one(station.clock)?;
     station.forming.insert(v);
@@ -106,8 +103,7 @@ fn up(mut station: Station, v: i64) -> Result<Outcome, Refusal> {
     Ok(Outcome { station, answer })
 }
 
-/// "Down (u, v): [..] v leaves N and F. If N is now empty: u elects itself [..]. Otherwise, if u
-/// is a sink, it starts a level [..]. Otherwise rule Q."
+/// 01, 4.6 to 4.10: a down gives E, S or Q.
 fn down(mut station: Station, v: i64) -> Result<Outcome, Refusal> {
     station.clock = clock_by_one(station.clock)?;
     station.linked.remove(&v);
@@ -121,8 +117,7 @@ fn down(mut station: Station, v: i64) -> Result<Outcome, Refusal> {
     }
 }
 
-/// "If v is in neither set of u, rule I: the clock moves, nothing else. Otherwise v joins N,
-/// leaves F, and its view is stored. Then:" the rule by the two pairs, v's against u's.
+/// 01, 4.12 and 4.13, then 4.14 to 4.21: the rule by the two pairs, v's against u's.
 fn receipt(mut station: Station, v: i64, message: Message) -> Result<Outcome, Refusal> {
     if !station.knows(v) {
         station.clock = clock_by_one(station.clock)?;
@@ -139,8 +134,7 @@ fn receipt(mut station: Station, v: i64, message: Message) -> Result<Outcome, Re
     }
 }
 
-/// "Pairs equal, u a sink, all views in N with one level": F, E or S; "levels differ: the largest
-/// level", P.
+/// 01, 4.15 to 4.19: one level in view: F, E or S; several: P.
 fn sink_hears(station: Station) -> Result<Outcome, Refusal> {
     let views = station.linked.values();
     let levels: BTreeSet<Level> = views.map(|view| view.level).collect();
@@ -162,20 +156,20 @@ fn keep_quiet(station: Station, rule: Rule) -> Outcome {
     Outcome { station, answer }
 }
 
-/// "the new height goes to all of N and F"; on a down with N empty this is "all of F".
+/// 01, 4.22: to N and F; on a down with N empty this is F (4.8).
 fn take_height(mut station: Station, own: Height, rule: Rule) -> Outcome {
     station.own = own;
     let answer = Answer::accepted(rule, station.everyone());
     Outcome { station, answer }
 }
 
-/// "u elects itself, height (0, 0, 0, 0, −T, u, u)". Rule E.
+/// 01, 4.7: elects itself, (0, 0, 0, 0, −T, u, u). Rule E.
 fn elect_itself(station: Station) -> Outcome {
     let own = Height::of_collector(station.own.station, -station.clock);
     take_height(station, own, Rule::E)
 }
 
-/// "it starts a level: (T, u, 0, 0, own pair, u), sent to all of N and F. Rule S."
+/// 01, 4.9: (T, u, 0, 0, own pair, u). Rule S.
 fn start_level(station: Station) -> Outcome {
     let level = Level {
         tau: station.clock,
@@ -190,7 +184,7 @@ fn start_level(station: Station) -> Outcome {
     take_height(station, own, Rule::S)
 }
 
-/// "With τ above 0 and bit 0: the level with bit 1, depth 0, rule F."
+/// 01, 4.16: reflects the level. Rule F.
 fn reflect(station: Station, common: Level) -> Outcome {
     let own = Height {
         level: Level { bit: 1, ..common },
@@ -200,8 +194,7 @@ fn reflect(station: Station, common: Level) -> Outcome {
     take_height(station, own, Rule::F)
 }
 
-/// "the largest level, depth one less than the smallest depth among views with that level, rule
-/// P"; "for P the level taken".
+/// 01, 4.19: the largest level, below its lowest depth. Rule P, which carries the level (4.26).
 fn propagate(station: Station, largest: Level) -> Result<Outcome, Refusal> {
     let views = station.linked.values();
     let depths = views.filter(|view| view.level == largest).map(|v| v.depth);
@@ -216,8 +209,7 @@ fn propagate(station: Station, largest: Level) -> Result<Outcome, Refusal> {
     Ok(outcome)
 }
 
-/// "v's pair smaller: v's level, v's depth plus 1, v's pair, rule A"; "for A the answer carries
-/// the station adopted from".
+/// 01, 4.20: adopts v's pair. Rule A, which carries v (4.26).
 fn adopt(station: Station, v: i64, view: Height) -> Result<Outcome, Refusal> {
     let own = Height {
         depth: depth_in_range(view.depth + 1)?,
@@ -229,13 +221,13 @@ fn adopt(station: Station, v: i64, view: Height) -> Result<Outcome, Refusal> {
     Ok(outcome)
 }
 
-/// "v's pair larger: u sends its height to v only, rule R."
+/// 01, 4.21: the own height, to v alone. Rule R.
 fn answer_back(station: Station, v: i64) -> Outcome {
     let answer = Answer::accepted(Rule::R, BTreeSet::from([v]));
     Outcome { station, answer }
 }
 
-/// "the channel's messages are lost"; "the first message leaves the channel"; "Stamps are T."
+/// 01, 4.5, 4.11 and 4.23: what leaves the channels, and the stamp of what enters them.
 fn carry_out(plot: &mut Plot, event: Event, outcome: Outcome) -> Answer {
     match event {
         Event::Up { .. } => {}

@@ -7,26 +7,26 @@ use crate::sound::check_places;
 use crate::step::{Answer, Event};
 use std::collections::{BTreeMap, BTreeSet, VecDeque};
 
-/// "A height is seven numbers".
+/// 01, 2.8: the numbers of a height.
 pub const HEIGHT_WORDS: usize = 7;
 
-/// "A message is the sender's height and a stamp".
+/// 01, 2.27: a height and a stamp.
 pub const MESSAGE_WORDS: usize = HEIGHT_WORDS + 1;
 
-/// A count and "0 to 8 messages".
+/// A count and 8 messages (01, 2.25).
 pub const CELL_WORDS: usize = 1 + MOST_WAITING * MESSAGE_WORDS;
 
 /// Words before the heights of a station: clock, N, F.
 const SET_WORDS: usize = 3;
 
-/// The "lent tables" of one plot.
+/// The lent tables of one plot.
 #[derive(Clone, Debug, PartialEq, Eq)]
 pub struct Tables {
     pub nodes: Vec<u32>,
     pub channels: Vec<u32>,
 }
 
-/// "A plot has n stations, n from 1 to 16".
+/// 01, 1.1: the number of stations.
 pub fn is_station_count(n: i64) -> bool {
     (1..=MOST_STATIONS).contains(&n)
 }
@@ -36,22 +36,22 @@ fn size(number: i64) -> usize {
     usize::try_from(number).unwrap_or(0)
 }
 
-/// "a lent row of n heights", in words.
+/// A lent row of n heights, in words (01, 6.17).
 pub fn row_len(n: i64) -> usize {
     size(n).saturating_mul(HEIGHT_WORDS)
 }
 
-/// Clock, N, F "then n heights by station", in words.
+/// Clock, N, F and the heights (01, 6.3), in words.
 pub fn station_len(n: i64) -> usize {
     row_len(n).saturating_add(SET_WORDS)
 }
 
-/// "the length for n" of the table of stations.
+/// The length of the table of stations for n (01, 5.3).
 pub fn nodes_len(n: i64) -> usize {
     size(n).saturating_mul(station_len(n))
 }
 
-/// "the length for n" of the table of channels, with a cell also from each station to itself.
+/// The length of the table of channels for n, with a cell also from each station to itself.
 pub fn channels_len(n: i64) -> usize {
     let cells = size(n).saturating_mul(size(n));
     cells.saturating_mul(CELL_WORDS)
@@ -75,13 +75,13 @@ pub fn cell_words(n: i64, channels: &[u32], u: i64, v: i64) -> &[u32] {
     &channels[start..start + CELL_WORDS]
 }
 
-/// The bit of a station: "station k at the bit worth 2 to the power k − 1".
+/// The bit of a station (01, 2.5).
 fn bit_of(k: i64) -> u32 {
     let power = u32::try_from(k.saturating_sub(1)).ok();
     power.and_then(|p| 1u32.checked_shl(p)).unwrap_or(0)
 }
 
-/// Whether station k is in the set: "station k at the bit worth 2 to the power k − 1".
+/// Whether station k is in the set (01, 2.5).
 pub fn is_in(set: u32, k: i64) -> bool {
     set & bit_of(k) != 0
 }
@@ -96,8 +96,8 @@ fn word(number: i64) -> u32 {
     number as u32
 }
 
-/// "A height is seven numbers", the depth "in two's complement", the "election time without its
-/// sign".
+/// A height from its seven words: the depth in two's complement, the election time as a positive
+/// number.
 pub fn height_of_words(words: &[u32]) -> Height {
     let depth = i64::from(words[3] as i32);
     let plain = |place: usize| i64::from(words[place]);
@@ -125,13 +125,13 @@ pub fn words_of_height(height: &Height) -> [u32; HEIGHT_WORDS] {
     ]
 }
 
-/// "A step checks in the order 1, 2"; "Writing checks 1, 2".
+/// The checks 1 and 2 of a step and of writing (01, 5.18 and 6.23).
 pub fn check(n: i64, nodes: &[u32], channels: &[u32]) -> Result<(), Refusal> {
     check_sizes(n, nodes.len(), channels.len())?;
     check_places(n, nodes, channels)
 }
 
-/// 1: "n outside 1 to 16, or a lent table not of the length for n".
+/// 1: n, or the length of a lent table (01, 5.3).
 pub fn check_sizes(n: i64, nodes: usize, channels: usize) -> Result<(), Refusal> {
     let good = is_station_count(n) && nodes == nodes_len(n) && channels == channels_len(n);
     good.then_some(()).ok_or(Refusal::Sizes)
@@ -150,8 +150,7 @@ pub fn load(n: i64, nodes: &[u32], channels: &[u32]) -> Result<Plot, Refusal> {
     Ok(plot)
 }
 
-/// "Clock", "Linked set N and forming set F", "A height for itself, and its view of each member
-/// of N."
+/// 01, 2.1, 2.2 and 2.6: clock, sets, own height and views.
 fn station_of_words(n: i64, nodes: &[u32], u: i64) -> Station {
     let station = station_words(n, nodes, u);
     let view = |v: i64| height_of_words(height_words(n, nodes, u, v));
@@ -175,7 +174,7 @@ fn waiting_of_words(cell: &[u32]) -> VecDeque<Message> {
     places.take(cell[0] as usize).map(message).collect()
 }
 
-/// The tables that hold a plot, "Unused places [..] all zero."
+/// The tables that hold a plot, with zeros in unused places (01, 2.29).
 pub fn store(plot: &Plot) -> Tables {
     let mut nodes = Vec::with_capacity(nodes_len(plot.n));
     let mut channels = Vec::with_capacity(channels_len(plot.n));
@@ -193,8 +192,7 @@ pub fn store(plot: &Plot) -> Tables {
     Tables { nodes, channels }
 }
 
-/// "n heights by station": the own height at its own place, "The view of any other station is all
-/// zero."
+/// The heights by station (01, 6.3): the own one at its own place, zeros for no view (2.7).
 pub fn store_row(plot: &Plot, u: i64) -> Vec<u32> {
     let station = plot.station(u);
     let height = |v: i64| match station.linked.get(&v) {
@@ -218,8 +216,7 @@ fn words_of_waiting(waiting: Option<&VecDeque<Message>>) -> Vec<u32> {
     cell
 }
 
-/// "A step checks in the order 1, 2, 3, then 4, 5 or 6, then 7, 8, 9." Refused: "nothing lent
-/// changes".
+/// 01, 5.18: the order of the checks. A refusal changes nothing lent (5.2).
 pub fn step(n: i64, event: Event, tables: &mut Tables) -> Answer {
     let mut plot = match load(n, &tables.nodes, &tables.channels) {
         Ok(plot) => plot,

@@ -45,6 +45,17 @@ fn reading_checks_10_11_1_then_the_walk() {
 }
 
 #[test]
+fn a_good_header_tells_n_whatever_follows() {
+    for n in 0..32u8 {
+        let told = (1..=16).contains(&n).then_some(i64::from(n));
+        for tail in [&[][..], &[0], &[255; 40]] {
+            let bytes = [&[0x10, 0x20, n << 3, 0], tail].concat();
+            assert_eq!(header(&bytes), told.ok_or(Refusal::ImageHeader));
+        }
+    }
+}
+
+#[test]
 fn the_walk_12_or_2_whichever_comes_first_then_the_contents_2() {
     let image = write(&Plot::fresh(4));
     let counts = place_of(4, 5);

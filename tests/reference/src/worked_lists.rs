@@ -96,7 +96,7 @@ fn history_tells_a_wrong_table() {
     assert!(history.agrees(&plot).is_err());
 }
 
-/// Reading: "If N is now empty" asks nothing of where v was, nor of who led.
+/// Reading: the empty N of 01, 4.7 asks nothing of where v was, nor of who led.
 #[test]
 fn down_of_a_forming_channel() {
     let mut plot = Plot::fresh(3);
@@ -113,8 +113,8 @@ fn down_of_a_forming_channel() {
     stands(&plot, 2, 5, [5, 2, 0, 0, 0, 1, 2]);
 }
 
-/// Reading: "After E, S, F, P or A on a receipt the new height goes to all of N and F", also if it
-/// is the old one again.
+/// Reading: after a rule that changes heights (01, 4.22) the height goes out, also if it is the old one
+/// again.
 #[test]
 fn a_level_started_again_is_sent() {
     let mut plot = Plot::fresh(3);
@@ -127,8 +127,7 @@ fn a_level_started_again_is_sent() {
     assert_eq!(plot.waiting(2, 3).len(), 1);
 }
 
-/// "A station u is a sink if every view in N has u's leader pair": one view of another pair keeps
-/// it from acting on a message of its own pair.
+/// 01, 4.1: one view of another pair keeps a station from acting on a message of its own pair.
 #[test]
 fn another_pair_in_view_keeps_a_station_quiet() {
     let mut plot = Plot::fresh(3);

@@ -51,7 +51,7 @@ fn extend(bytes: &mut Vec<u8>, random: &mut Random) {
 }
 
 /// The header's fields: place and width of version, header length, n and spare.
-const FIELDS: [(usize, usize); 4] = [(0, 4), (4, 12), (16, 5), (21, 11)];
+pub const FIELDS: [(usize, usize); 4] = [(0, 4), (4, 12), (16, 5), (21, 11)];
 
 fn change_header(bytes: &mut [u8], random: &mut Random) {
     let (place, width) = random.pick(&FIELDS);

@@ -37,8 +37,7 @@ impl Run {
         self.resume_kept(last.expect("the chosen one at least"), tally);
     }
 
-    /// "an accepted resume puts back the history as it stood at the last save before it that wrote these bytes." `last` is that
-    /// save.
+    /// Document 01, 7.7: a resume returns to the history of the youngest save with its bytes. `last` is that save.
     fn resume_kept(&mut self, last: usize, tally: &mut Tally) {
         let kept = &self.kept[last];
         self.beside.resume(&kept.image, tally);
@@ -48,7 +47,7 @@ impl Run {
         self.beside.check_quiet(tally);
     }
 
-    /// "or any bytes that it refuses": the tables stay.
+    /// Document 01, 7.4: bytes that a resume refuses; the tables stay.
     pub(super) fn bad_resume(&mut self, tally: &mut Tally) {
         let mut bytes = image::write(&self.beside.plot);
         damage::damage_image(&mut bytes, &self.beside.plot, &mut self.random);
@@ -58,8 +57,7 @@ impl Run {
         }
     }
 
-    /// "After an accepted resume, for every list of events: each answer, and at the end each clock, set and height and each
-    /// channel's messages in order, equal those that the same events give from the plot at the save."
+    /// Document 01, 7.14: after a resume, the same events give the same answers and the same tables as from the save.
     pub(super) fn there_and_back(&mut self, tally: &mut Tally) {
         self.save(tally);
         let last = self.kept.len() - 1;
