@@ -184,7 +184,7 @@ in_time() { # LINE
 # With a clock of its own.
 call() { # LINE
     local status=0
-    CLOCK=$(mktemp -d "$WORK/clock.XXXXXX")
+    CLOCK=$(mktemp -d -p "$WORK")
     in_time "$1" >"$WORK/log/out" 2>"$WORK/log/err" </dev/null || status=$?
     : >"$CLOCK/over"
     printf '$ %s\n' "$1"
