@@ -1,4 +1,5 @@
-/* A plot of two loggers: link up, elect, save, lose the link, resume, look at one station, and what is refused.
+/* A plot of two loggers: link up, elect, what decides the link's direction, save, lose the link, resume, look at one station, and what
+ * is refused.
  * Build: gcc -std=c11 -Iinclude examples/logger.c target/staticlib/libabi.a
  */
 #include <inttypes.h>
@@ -16,6 +17,13 @@ static void show_stations(void) {
     for (uint32_t u = 1; u <= N; u++)
         printf("  station %" PRIu32 ": clock %" PRIu32 ", collector %" PRIu32 "%s\n", u, election_clock(N, u, nodes),
                election_leader(N, u, nodes), election_is_collector(N, u, nodes) ? " (itself)" : "");
+}
+
+/* The link leads from the larger own height to the smaller; which of the seven numbers decides that. */
+static void show_link(void) {
+    election_comparison c = election_compare(election_height_at(N, 1, 1, nodes), election_height_at(N, 2, 2, nodes));
+    const char *way = !election_is_linked(N, 1, 2, nodes) ? "no link" : c.order < 0 ? "from 2 to 1" : "from 1 to 2";
+    printf("  %s; heights part at place %" PRIu32 ", %s\n", way, c.place, election_strplace(c.place));
 }
 
 /* ---- events */
@@ -54,6 +62,7 @@ static void deliver(void) {
                     busy = 1;
     }
     show_stations();
+    show_link();
 }
 
 /* ---- images */
@@ -112,6 +121,7 @@ int main(void) {
 
     resume(len);
     show_stations();
+    show_link();
     look(len, 2, election_place(N, 2));
     refusals(len);
     return 0;

@@ -13,6 +13,8 @@
  * channels: n n cells of ELECTION_CELL_LEN words, 1 to 1, 1 to 2, .. n to n: how many messages wait, then eight places of a message,
  *   oldest first. A message: a height of the sender's and its stamp. Unused places, and every word of a cell u to u, are zero.
  *   Channel u to v is up when one of u's sets has v; a channel that is down holds nothing.
+ * Heights are ordered by their seven numbers in this order, the first that differs decides; the election time counts with a minus sign,
+ * so that the later election is the smaller. A link leads from the larger own height to the smaller.
  * A set has station k at the bit worth 2^(k-1). A station is a collector when the leader of its own height is itself. Two stations
  * are linked when they are up both ways; a group is all that links join.
  *
@@ -41,6 +43,7 @@
  * channel that is down. What is said above to be zero is zero.
  *
  * THE ORDER OF CHECKS. The first number that applies is answered.
+ *   compare                        none: it takes any two heights
  *   fresh                          1
  *   check, quiet, groups           1, 2
  *   group_of                       1, 2, 3
@@ -67,7 +70,7 @@ extern "C" {
  * call, a number, a letter: take a number that you do not know as a refusal), PATCH with words only. The archive has no number of its
  * own: take both from one bin/install. */
 #define ELECTION_VERSION_MAJOR 1
-#define ELECTION_VERSION_MINOR 0
+#define ELECTION_VERSION_MINOR 1
 #define ELECTION_VERSION_PATCH 0
 #define ELECTION_VERSION (ELECTION_VERSION_MAJOR * 1000000 + ELECTION_VERSION_MINOR * 1000 + ELECTION_VERSION_PATCH)
 
@@ -152,6 +155,33 @@ static inline const char *election_strerror(uint32_t number) {
     }
 }
 
+/* The places of a height's seven numbers: the one that decides which of two heights is the larger. */
+enum {
+    ELECTION_BY_NONE = 0,          /* the heights are equal */
+    ELECTION_BY_SEARCH_TIME = 1,
+    ELECTION_BY_ORIGINATOR = 2,
+    ELECTION_BY_BIT = 3,
+    ELECTION_BY_DEPTH = 4,
+    ELECTION_BY_ELECTION_TIME = 5, /* the later election is the smaller */
+    ELECTION_BY_LEADER = 6,
+    ELECTION_BY_STATION = 7
+};
+
+/* A word for a place, and one for any other number. */
+static inline const char *election_strplace(uint32_t place) {
+    switch (place) {
+    case ELECTION_BY_NONE: return "equal";
+    case ELECTION_BY_SEARCH_TIME: return "search time";
+    case ELECTION_BY_ORIGINATOR: return "originator";
+    case ELECTION_BY_BIT: return "bit";
+    case ELECTION_BY_DEPTH: return "depth";
+    case ELECTION_BY_ELECTION_TIME: return "election time";
+    case ELECTION_BY_LEADER: return "leader";
+    case ELECTION_BY_STATION: return "station";
+    default: return "no place of a height";
+    }
+}
+
 /* ---- answers: fields that a comment does not give are 0 when refused */
 
 /* The rule that an accepted event followed. */
@@ -214,6 +244,20 @@ typedef struct {
     uint32_t collector;                                /* the collector if there is exactly one, else 0 */
 } election_group;
 
+/* A height as seven numbers; election_height_at and election_height_of read one. */
+typedef struct {
+    uint32_t search_time, originator, bit;
+    int32_t depth;
+    uint32_t election_time;                            /* not negated */
+    uint32_t leader, station;
+} election_height;
+
+/* What a comparison of heights a and b answers. */
+typedef struct {
+    int32_t order;                                     /* -1: a is less, 0: they are equal, 1: a is greater */
+    uint32_t place;                                    /* of the first number that differs: ELECTION_BY_..; 0 exactly when equal */
+} election_comparison;
+
 /* ---- calls: how much to lend */
 
 /* Words and bytes for n stations; 0 for n outside 1 to 16. */
@@ -266,6 +310,11 @@ election_checked election_restore(const uint8_t *image, size_t image_len, uint32
 /* Looks at station k, whose record is said to start at the bit `place` (election_place); its n heights go into row. */
 election_station election_read_node(const uint8_t *image, size_t image_len, uint32_t k, uint64_t place, uint32_t *row, size_t row_len);
 
+/* ---- calls: heights */
+
+/* Which of two heights is the larger, and which number decides it. Any numbers may be given; b with a is the other sign, the same place. */
+election_comparison election_compare(election_height a, election_height b);
+
 /* ---- reading the tables: 0 for n outside 1 to 16, a station outside 1 to n, and for u = v; the tables must be those for n */
 
 /* Whether station k is in a set. */
@@ -311,6 +360,22 @@ static inline uint32_t election_waiting(uint32_t n, uint32_t u, uint32_t v, cons
     if (!election_is_station(n, u) || !election_is_station(n, v) || u == v)
         return 0;
     return channels[((size_t)(u - 1) * n + (v - 1)) * ELECTION_CELL_LEN];
+}
+
+/* The height whose seven words stand at `words`: in a row, a message or the row of a look. */
+static inline election_height election_height_of(const uint32_t *words) {
+    election_height h = {words[ELECTION_AT_SEARCH_TIME],   words[ELECTION_AT_ORIGINATOR], words[ELECTION_AT_BIT],
+                         (int32_t)words[ELECTION_AT_DEPTH], words[ELECTION_AT_ELECTION_TIME],
+                         words[ELECTION_AT_LEADER],         words[ELECTION_AT_STATION]};
+    return h;
+}
+
+/* What station u holds of k: its own height for k = u, else its view of k, or seven zeros if k is not in its linked set. */
+static inline election_height election_height_at(uint32_t n, uint32_t u, uint32_t k, const uint32_t *nodes) {
+    election_height none = {0, 0, 0, 0, 0, 0, 0};
+    if (!election_is_station(n, u) || !election_is_station(n, k))
+        return none;
+    return election_height_of(nodes + (u - 1) * ELECTION_STATION_LEN(n) + ELECTION_AT_HEIGHTS + (k - 1) * ELECTION_HEIGHT_LEN);
 }
 
 /* The bit at which station k's record starts in an image of n stations. */

@@ -2,8 +2,8 @@
 """The project counted: what a reader must believe, and how much else there is. Run it anywhere in the project; it needs nothing but Python.
 
 To believe is every definition that a contract of a public function cites, or a theorem that docs/TRUST.md names, and what that cites in turn.
-Public functions are those of the crates that docs/TRUST.md says callers enter. Lines are counted without comments, blank lines and imports;
-the worked cases (`protocol` Cases) are test data and do not count.
+Public functions are those of the crates, or of the modules of crates, that docs/TRUST.md says callers enter. Lines are counted without comments,
+blank lines and imports; the worked cases (`protocol` Cases) are test data and do not count.
 
 It fails, with a line for each thing that is wrong, where a definition to believe stands in a folder specs/inner/, where another stands outside
 one, where a name has two definitions, or where a function has more than seven parameters.
@@ -159,25 +159,26 @@ class Source:
 
 
 def trusted():
-    """The crates that callers enter, and the files of theorems, as docs/TRUST.md names them."""
+    """The crates and modules that callers enter, and the files of theorems, as docs/TRUST.md names them."""
     with open("docs/TRUST.md", encoding="utf-8") as f:
         text = " ".join(f.read().split())
-    entered = re.search(r"Callers enter (.*?):", text)
+    entered = re.search(r"Callers enter (.*?): ", text)
     theorems = []
     for crate, files in re.findall(r"`crates/(\w+)/proofs/(\{[^}]*\}|\w+)\.antt`", text.split("What follows a statement there")[0]):
         theorems += [(crate, f) for f in files.strip("{}").split(",")]
-    return re.findall(r"`(\w+)`", entered.group(1)), theorems
+    return re.findall(r"`(\w+)(?:::(\w+))?`", entered.group(1)), theorems
 
 
 def believed(specs, proofs, sources):
     cite = Citations(specs, proofs)
     entered, theorems = trusted()
     found = set()
-    for crate in entered:
+    for crate, module in entered:
         with open(f"crates/{crate}/src/lib.rt", encoding="utf-8") as f:
             private = re.findall(r"^mod (\w+);", f.read(), re.M)
         for path, source in sources.items():
-            if path.split("/")[1] == crate and os.path.basename(path)[:-3] not in private:
+            file = os.path.basename(path)[:-3]
+            if path.split("/")[1] == crate and file not in private and module in ("", file):
                 for contract in source.contracts:
                     found |= cite.closure(source, None, contract.split("\n"))
     for place in theorems:

@@ -1,6 +1,7 @@
 //! What the calls answer.
 
 use crate::ffi;
+use core::cmp::Ordering;
 use core::fmt;
 
 /// Why a call is refused. Nothing that was lent has changed then.
@@ -151,8 +152,8 @@ pub struct Level {
     pub search_time: u32,
     /// The station that started the search, 0 for none.
     pub originator: u32,
-    /// Whether the level is reflected.
-    pub bit: bool,
+    /// The reflection bit: 1 if the level is reflected. 0 or 1 in tables that pass the check, any word in others.
+    pub bit: u32,
 }
 
 /// What an accepted event did. The names are those of the algorithm's subroutines.
@@ -209,7 +210,7 @@ impl Rule {
             'P' => Rule::PropagateLargestRefLevel(Level {
                 search_time: a.level_tau,
                 originator: a.level_originator,
-                bit: a.level_bit != 0,
+                bit: a.level_bit,
             }),
             'A' => Rule::AdoptLpIfPriority(a.adopted_from),
             'R' => Rule::Reply,
@@ -273,13 +274,98 @@ impl Height {
             level: Level {
                 search_time: w[0],
                 originator: w[1],
-                bit: w[2] != 0,
+                bit: w[2],
             },
             depth: w[3] as i32,
             election_time: w[4],
             leader: w[5],
             station: w[6],
         }
+    }
+
+    /// Which of two heights is the larger, and which of the seven numbers decides it. Any numbers may be compared.
+    pub fn compare(self, other: Height) -> Comparison {
+        let c = ffi::compare(self.given(), other.given());
+        Comparison {
+            order: c.order.cmp(&0),
+            place: Place::of(c.place),
+        }
+    }
+
+    fn given(self) -> ffi::Height {
+        ffi::Height {
+            search_time: self.level.search_time,
+            originator: self.level.originator,
+            bit: self.level.bit,
+            depth: self.depth,
+            election_time: self.election_time,
+            leader: self.leader,
+            station: self.station,
+        }
+    }
+}
+
+/// How two heights compare.
+#[derive(Clone, Copy, Debug, PartialEq, Eq, Hash)]
+pub struct Comparison {
+    /// Whether the first is less, equal or greater. A link leads from the greater own height to the lesser.
+    pub order: Ordering,
+    /// The first number that differs; `None` exactly when the heights are equal.
+    pub place: Option<Place>,
+}
+
+/// One of a height's seven numbers, by its place in the order.
+#[derive(Clone, Copy, Debug, PartialEq, Eq, PartialOrd, Ord, Hash)]
+pub enum Place {
+    /// 1: search time.
+    SearchTime = 1,
+    /// 2: originator.
+    Originator,
+    /// 3: reflection bit.
+    Bit,
+    /// 4: depth.
+    Depth,
+    /// 5: election time. It counts with a minus sign: the later election is the lesser.
+    ElectionTime,
+    /// 6: leader.
+    Leader,
+    /// 7: station.
+    Station,
+}
+
+impl Place {
+    /// The seven, in their order.
+    pub const ALL: [Place; 7] = [
+        Place::SearchTime,
+        Place::Originator,
+        Place::Bit,
+        Place::Depth,
+        Place::ElectionTime,
+        Place::Leader,
+        Place::Station,
+    ];
+
+    /// 1 to 7.
+    pub fn number(self) -> u32 {
+        self as u32
+    }
+
+    fn of(number: u32) -> Option<Place> {
+        Place::ALL.into_iter().find(|p| p.number() == number)
+    }
+}
+
+impl fmt::Display for Place {
+    fn fmt(&self, f: &mut fmt::Formatter<'_>) -> fmt::Result {
+        f.write_str(match self {
+            Place::SearchTime => "search time",
+            Place::Originator => "originator",
+            Place::Bit => "bit",
+            Place::Depth => "depth",
+            Place::ElectionTime => "election time",
+            Place::Leader => "leader",
+            Place::Station => "station",
+        })
     }
 }
 

@@ -73,6 +73,27 @@ pub struct Group {
     pub collector: u32,
 }
 
+/// A height to compare.
+#[repr(C)]
+#[derive(Clone, Copy, Debug, PartialEq, Eq)]
+pub struct Height {
+    pub search_time: u32,
+    pub originator: u32,
+    pub bit: u32,
+    pub depth: i32,
+    pub election_time: u32,
+    pub leader: u32,
+    pub station: u32,
+}
+
+/// What a comparison of two heights answers.
+#[repr(C)]
+#[derive(Clone, Copy, Debug, PartialEq, Eq)]
+pub struct Comparison {
+    pub order: i32,
+    pub place: u32,
+}
+
 /// The form that up, down and receive share.
 type Event = unsafe extern "C" fn(u32, u32, u32, *mut u32, usize, *mut u32, usize) -> Answer;
 
@@ -81,6 +102,7 @@ unsafe extern "C" {
     safe fn election_channels_len(n: u32) -> usize;
     safe fn election_row_len(n: u32) -> usize;
     safe fn election_image_len(n: u32) -> usize;
+    safe fn election_compare(a: Height, b: Height) -> Comparison;
     fn election_fresh(
         n: u32,
         nodes: *mut u32,
@@ -192,6 +214,11 @@ pub fn row_len(n: u32) -> usize {
 /// The bytes that hold every image.
 pub fn image_len(n: u32) -> usize {
     election_image_len(n)
+}
+
+/// Which height is the larger, and where they part.
+pub fn compare(a: Height, b: Height) -> Comparison {
+    election_compare(a, b)
 }
 
 /// The fresh plot.

@@ -25,7 +25,7 @@ pub mod lent;
 mod plot;
 mod view;
 
-pub use answers::{Group, Height, Level, Record, Refusal, Rule, Stations, Step};
+pub use answers::{Comparison, Group, Height, Level, Place, Record, Refusal, Rule, Stations, Step};
 #[cfg(feature = "std")]
 pub use plot::Plot;
 #[cfg(feature = "std")]

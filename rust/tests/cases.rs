@@ -16,7 +16,7 @@ fn height(depth: i32, election_time: u32, leader: u32, station: u32) -> Height {
     let level = Level {
         search_time: 0,
         originator: 0,
-        bit: false,
+        bit: 0,
     };
     Height {
         level,

@@ -1,4 +1,5 @@
-// The calls for C and Rust (include/election.h): those of `lent`, `election`, `groups` and `image_snapshot`, with a plain struct as the answer.
+// The calls for C and Rust (include/election.h): those of `lent`, `election`, `groups`, `image_snapshot` and the comparison of `height`, with a
+// plain struct as the answer.
 // Every call takes anything; its contract is the equation of the call that it makes.
 ghost use mathlib.Core.Path.{_≡_};
 ghost use lib.Count.{ones};
@@ -7,6 +8,7 @@ ghost use Rattle.groups.specs.Group.{groupOn};
 ghost use Rattle.groups.specs.Groups.{theOne};
 ghost use Rattle.groups.specs.Heads.{headsOn};
 ghost use Rattle.groups.specs.Quiet.{quietOn};
+ghost use Rattle.height.specs.Comparison.{comparison};
 ghost use Rattle.image_snapshot.specs.Count.{countOn};
 ghost use Rattle.image_snapshot.specs.ReadNode.{readNodeOn};
 ghost use Rattle.image_snapshot.specs.Restore.{restoreOn};
@@ -16,7 +18,7 @@ ghost use Rattle.lent.specs.Fresh.{freshOn};
 ghost use Rattle.protocol.specs.Step.{up, down, receive};
 ghost use Rattle.refusal.specs.Outcome.{outcome};
 ghost use Rattle.tables.specs.Tables.{atEntry, atExit};
-ghost use Rattle.abi.specs.Report.{saidReport, saidCheckReport, saidSaveReport, saidNodeReport, saidValueReport, saidGroupReport};
+ghost use Rattle.abi.specs.Report.{saidReport, saidCheckReport, saidSaveReport, saidNodeReport, saidValueReport, saidGroupReport, saidOrderReport, heightGiven};
 ghost use Rattle.abi.specs.Sizes.{isSize, nodesLength, channelsLength, rowLength, imageLength};
 
 mod reports;
@@ -82,6 +84,25 @@ pub struct GroupReport {
     pub members: u32,
     pub collectors: u32,
     pub collector: u32,
+}
+
+// A height to be compared, its election time not negated: election_height.
+#[repr(C)]
+pub struct GivenHeight {
+    pub search_time: u32,
+    pub originator: u32,
+    pub bit: u32,
+    pub depth: i32,
+    pub election_time: u32,
+    pub leader: u32,
+    pub station: u32,
+}
+
+// What the comparison of two heights answers: election_comparison.
+#[repr(C)]
+pub struct OrderReport {
+    pub order: i32,
+    pub place: u32,
 }
 
 // ---- how much to lend
@@ -280,4 +301,14 @@ pub extern "C" fn election_read_node(
     ensures { λ r. ⌜ outcome (saidNodeReport r) (now (row .exit)) ≡ readNodeOn (now (image .entry)) k place (now (row .entry)) ⌝ }
 {
     reports::of_node(image_snapshot::read_node(image, k, place, row))
+}
+
+// ---- heights
+
+// Less, equal or greater, and where they part.
+#[no_mangle]
+pub extern "C" fn election_compare(a: GivenHeight, b: GivenHeight) -> OrderReport
+    ensures { λ r. ⌜ saidOrderReport r ≡ comparison (heightGiven a) (heightGiven b) ⌝ }
+{
+    reports::of_order(height::order::of_heights(reports::given(a), reports::given(b)))
 }

@@ -2,6 +2,7 @@
 // Each contract: what the struct says is what the answer says.
 ghost use mathlib.Core.Path.{_≡_};
 ghost use lib.Count.{ones};
+ghost use Rattle.height.specs.Comparison.{saidOrder};
 ghost use Rattle.height.specs.Height.{zeroLevel};
 ghost use Rattle.image_reader.specs.Record.{saidNode, noNode};
 ghost use Rattle.groups.specs.Group.{saidGroup, noGroup};
@@ -14,19 +15,23 @@ ghost use Rattle.nodeset.specs.NodeSet.{digit};
 ghost use Rattle.lent.specs.Check.{saidCheck};
 ghost use Rattle.protocol.specs.Answer.{said, saidRule, carriedOut, saidRefused};
 ghost use Rattle.refusal.specs.Refusal.{why};
-ghost use Rattle.abi.specs.Report.{saidReport, saidCheckReport, saidSaveReport, saidNodeReport, saidValueReport, saidGroupReport};
+ghost use Rattle.abi.specs.Report.{saidReport, saidCheckReport, saidSaveReport, saidNodeReport, saidValueReport, saidGroupReport, saidOrderReport, heightGiven};
 use super::AnswerReport;
 use super::CheckReport;
+use super::GivenHeight;
 use super::GroupReport;
 use super::NodeReport;
+use super::OrderReport;
 use super::SaveReport;
 use super::ValueReport;
 use groups::Group;
 use groups::GroupRead;
 use groups::HeadsRead;
 use groups::QuietRead;
+use height::Height;
 use height::ReferenceLevel;
 use height::Time;
+use height::order::Order;
 use image_reader::NodeRead;
 use image_reader::NodeRecord;
 use image_snapshot::CountRead;
@@ -274,5 +279,34 @@ pub fn of_group(answer: GroupRead) -> GroupReport
     match answer {
         GroupRead::Found(group) => grouped(accepted(), group),
         GroupRead::Refused(why) => grouped(refusal::said(why), no_group()),
+    }
+}
+
+// ---- two heights
+
+pub fn given(h: GivenHeight) -> Height
+    ensures { λ r. ⌜ r ≡ heightGiven h ⌝ }
+{
+    let level = ReferenceLevel {
+        tau: Time(h.search_time),
+        oid: h.originator,
+        r: h.bit,
+    };
+    let pair = height::words::pair_of(h.election_time, h.leader);
+    Height {
+        level,
+        delta: h.depth,
+        pair,
+        id: h.station,
+    }
+}
+
+pub fn of_order(answer: Order) -> OrderReport
+    ensures { λ r. ⌜ saidOrderReport r ≡ saidOrder answer ⌝ }
+{
+    match answer {
+        Order::Less(place) => OrderReport { order: -1, place },
+        Order::Equal => OrderReport { order: 0, place: 0 },
+        Order::Greater(place) => OrderReport { order: 1, place },
     }
 }

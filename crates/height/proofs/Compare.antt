@@ -1,21 +1,25 @@
 -- The comparison of two keys is the comparison of their beginnings and, where these are equal, of what follows; and what its answers say.
-use mathlib.Core.Path.{_≡_, refl, ap₂, _∙_}
+use Prim.Native.Nat.{ℕ, suc, _+_}
+use mathlib.Core.Path.{_≡_, refl, ap, ap₂, sym, _∙_}
 use mathlib.Core.Bool.{Bool, true, false, not, cond, _&&_}
 use mathlib.Core.Logic.{_⊎_, inl, inr}
 use mathlib.Core.List.{List, [], _∷_, _++_}
-use lib.IntN.{ℤ, pos}
+use lib.IntN.{ℤ, pos, negsuc}
 use lib.ListN.{length}
+use lib.Signed.{ltZ}
 use mir.Syntax.{w64}
 use mir.Val.{SFits, toZ, ofZ}
+use Rattle.height.specs.Comparison.{Comparison, comparison, signAt, signOf, placeOf, saidOrder}
 use Rattle.height.specs.Height.{levelKey, pairKey, heightKey}
 use Rattle.height.specs.Order.{before, same}
-use Rattle.height.specs.inner.Comparison.{orderOf, andThen, isLess, isEqual}
+use Rattle.height.specs.inner.Parts.{orderOf, andThen, isLess, isEqual}
 use Rattle.height.specs.declared.Height.{Height}
 use Rattle.height.specs.declared.LeaderPair.{LeaderPair}
 use Rattle.height.specs.declared.ReferenceLevel.{ReferenceLevel}
 use Rattle.height.specs.declared.order.Order.the-variants.{Less, Equal, Greater}
 use Rattle.height.specs.declared.order.Order.{Order}
 use Rattle.height.proofs.OrderLaws.{true-or-false, before-equal, before-append, before-asym, before-total}
+use Rattle.height.proofs.Places.{place-prefix, place-turned, place-append, place-none}
 use Rattle.height.proofs.Signed.{read-back}
 
 -- one beginning: what follows decides
@@ -23,65 +27,98 @@ pub before-prefix : (xs us vs : List ℤ) → before (xs ++ us) (xs ++ vs) ≡ b
 before-prefix [] us vs = refl
 before-prefix (x ∷ xs) us vs = before-equal x (xs ++ us) (xs ++ vs) ∙ before-prefix xs us vs
 
-pub order-append : (xs ys us vs : List ℤ) → length xs ≡ length ys → orderOf (xs ++ us) (ys ++ vs) ≡ andThen (orderOf xs ys) (orderOf us vs)
+pub order-append : (k : ℕ) (xs ys us vs : List ℤ) → length xs ≡ length ys
+    → orderOf k (xs ++ us) (ys ++ vs) ≡ andThen (orderOf k xs ys) (orderOf (k + length xs) us vs)
 unfolding orderOf
-order-append xs ys us vs e = go (true-or-false (before xs ys)) (true-or-false (before ys xs))
+order-append k xs ys us vs e = go (true-or-false (before xs ys)) (true-or-false (before ys xs))
   where
     go : (before xs ys ≡ true) ⊎ (before xs ys ≡ false) → (before ys xs ≡ true) ⊎ (before ys xs ≡ false)
-        → orderOf (xs ++ us) (ys ++ vs) ≡ andThen (orderOf xs ys) (orderOf us vs)
-    go (inl p) q = rw (p, before-append xs ys p us vs)
+        → orderOf k (xs ++ us) (ys ++ vs) ≡ andThen (orderOf k xs ys) (orderOf (k + length xs) us vs)
+    go (inl p) q = rw (p, before-append xs ys p us vs, place-append k xs ys p us vs)
     go (inr p) (inl q) =
         let r : before (ys ++ vs) (xs ++ us) ≡ true = before-append ys xs q vs us in
-        rw (p, q, before-asym (ys ++ vs) (xs ++ us) r, r)
+        let t : placeOf k (xs ++ us) (ys ++ vs) ≡ placeOf k xs ys =
+        sym (place-turned k (xs ++ us) (ys ++ vs)) ∙ place-append k ys xs q vs us ∙ place-turned k xs ys in
+        rw (p, q, before-asym (ys ++ vs) (xs ++ us) r, r, t)
     go (inr p) (inr q) =
         let d : xs ≡ ys = before-total xs ys e p q in
-        rw (p, q, d, before-prefix ys us vs, before-prefix ys vs us)
+        rw (p, q, d, before-prefix ys us vs, before-prefix ys vs us, place-prefix k ys us vs)
 
 -- the first number of the keys, then the rest
-pub order-cons : (x y : ℤ) (xs ys : List ℤ) → orderOf (x ∷ xs) (y ∷ ys) ≡ andThen (orderOf (x ∷ []) (y ∷ [])) (orderOf xs ys)
-order-cons x y xs ys = order-append (x ∷ []) (y ∷ []) xs ys refl
+pub order-cons : (k : ℕ) (x y : ℤ) (xs ys : List ℤ)
+    → orderOf k (x ∷ xs) (y ∷ ys) ≡ andThen (orderOf k (x ∷ []) (y ∷ [])) (orderOf (k + 1) xs ys)
+order-cons k x y xs ys = order-append k (x ∷ []) (y ∷ []) xs ys refl
 
 -- the comparison of two levels, pairs, heights, part by part
-pub order-levels : (a b : ReferenceLevel) → orderOf (levelKey a) (levelKey b)
-    ≡ andThen (orderOf (pos (a .tau .0) ∷ []) (pos (b .tau .0) ∷ []))
-    (andThen (orderOf (pos (a .oid) ∷ []) (pos (b .oid) ∷ [])) (orderOf (pos (a .r) ∷ []) (pos (b .r) ∷ [])))
+pub order-levels : (a b : ReferenceLevel) → orderOf 1 (levelKey a) (levelKey b)
+    ≡ andThen (orderOf 1 (pos (a .tau .0) ∷ []) (pos (b .tau .0) ∷ []))
+    (andThen (orderOf 2 (pos (a .oid) ∷ []) (pos (b .oid) ∷ [])) (orderOf 3 (pos (a .r) ∷ []) (pos (b .r) ∷ [])))
 unfolding levelKey
-order-levels a b = rw (order-cons, order-cons (pos (a .oid)) (pos (b .oid)))
+order-levels a b = rw (order-cons 1, order-cons 2 (pos (a .oid)) (pos (b .oid)))
 
-pub order-pairs : (a b : LeaderPair) → orderOf (pairKey a) (pairKey b)
-    ≡ andThen (orderOf (a .nlts .0 ∷ []) (b .nlts .0 ∷ [])) (orderOf (pos (a .lid) ∷ []) (pos (b .lid) ∷ []))
+pub order-pairs : (a b : LeaderPair) → orderOf 5 (pairKey a) (pairKey b)
+    ≡ andThen (orderOf 5 (a .nlts .0 ∷ []) (b .nlts .0 ∷ [])) (orderOf 6 (pos (a .lid) ∷ []) (pos (b .lid) ∷ []))
 unfolding pairKey
-order-pairs a b = order-cons _ _ _ _
+order-pairs a b = order-cons 5 _ _ _ _
 
-pub order-heights : (a b : Height) → orderOf (heightKey a) (heightKey b)
-    ≡ andThen (orderOf (levelKey (a .level)) (levelKey (b .level)))
-    (andThen (orderOf (a .delta ∷ []) (b .delta ∷ []))
-    (andThen (orderOf (pairKey (a .pair)) (pairKey (b .pair))) (orderOf (pos (a .id) ∷ []) (pos (b .id) ∷ []))))
+pub order-heights : (a b : Height) → orderOf 1 (heightKey a) (heightKey b)
+    ≡ andThen (orderOf 1 (levelKey (a .level)) (levelKey (b .level)))
+    (andThen (orderOf 4 (a .delta ∷ []) (b .delta ∷ []))
+    (andThen (orderOf 5 (pairKey (a .pair)) (pairKey (b .pair))) (orderOf 7 (pos (a .id) ∷ []) (pos (b .id) ∷ []))))
 unfolding heightKey levelKey pairKey
 order-heights a b =
-    order-append (levelKey (a .level)) (levelKey (b .level)) _ _ refl
-    ∙ rw (order-cons (a .delta) (b .delta), order-append (pairKey (a .pair)) (pairKey (b .pair)) (pos (a .id) ∷ []) (pos (b .id) ∷ []) refl)
+    order-append 1 (levelKey (a .level)) (levelKey (b .level)) _ _ refl
+    ∙ rw (order-cons 4 (a .delta) (b .delta), order-append 5 (pairKey (a .pair)) (pairKey (b .pair)) (pos (a .id) ∷ []) (pos (b .id) ∷ []) refl)
 
 -- the answer of `of_numbers`, which reads its two numbers off 64 bits
-pub order-read : {o : Order} {x y v w : ℤ} → SFits w64 v → SFits w64 w → x ≡ v → y ≡ w
-    → o ≡ orderOf (toZ w64 (ofZ w64 x) ∷ []) (toZ w64 (ofZ w64 y) ∷ []) → o ≡ orderOf (v ∷ []) (w ∷ [])
-order-read fv fw p q e = e ∙ ap₂ (λ (v w : ℤ). orderOf (v ∷ []) (w ∷ [])) (read-back w64 p fv) (read-back w64 q fw)
+pub order-read : {o : Order} (k : ℕ) {x y v w : ℤ} → SFits w64 v → SFits w64 w → x ≡ v → y ≡ w
+    → o ≡ orderOf k (toZ w64 (ofZ w64 x) ∷ []) (toZ w64 (ofZ w64 y) ∷ []) → o ≡ orderOf k (v ∷ []) (w ∷ [])
+order-read k fv fw p q e = e ∙ ap₂ (λ (v w : ℤ). orderOf k (v ∷ []) (w ∷ [])) (read-back w64 p fv) (read-back w64 q fw)
 
 -- what the answers say
-pub is-less : (xs ys : List ℤ) → isLess (orderOf xs ys) ≡ before xs ys
-unfolding orderOf
-is-less xs ys = go (before xs ys) (before ys xs)
+pub said-order : (k : ℕ) (xs ys : List ℤ) → saidOrder (orderOf k xs ys) ≡ signAt (signOf xs ys) (placeOf k xs ys)
+unfolding orderOf signOf
+said-order k xs ys = go (true-or-false (before xs ys)) (true-or-false (before ys xs))
   where
-    go : (b d : Bool) → isLess (cond b Less (cond d Greater Equal)) ≡ b
+    go : (before xs ys ≡ true) ⊎ (before xs ys ≡ false) → (before ys xs ≡ true) ⊎ (before ys xs ≡ false)
+        → saidOrder (orderOf k xs ys) ≡ signAt (signOf xs ys) (placeOf k xs ys)
+    go (inl p) q = rw p
+    go (inr p) (inl q) = rw (p, q)
+    go (inr p) (inr q) = rw (p, q, place-none k xs ys p q)
+
+pub is-less : (k : ℕ) (xs ys : List ℤ) → isLess (orderOf k xs ys) ≡ before xs ys
+unfolding orderOf
+is-less k xs ys = go (before xs ys) (before ys xs)
+  where
+    go : (b d : Bool) → isLess (cond b (Less (placeOf k xs ys)) (cond d (Greater (placeOf k xs ys)) Equal)) ≡ b
     go true d = refl
     go false true = refl
     go false false = refl
 
-pub is-equal : (xs ys : List ℤ) → isEqual (orderOf xs ys) ≡ same xs ys
+pub is-equal : (k : ℕ) (xs ys : List ℤ) → isEqual (orderOf k xs ys) ≡ same xs ys
 unfolding orderOf same
-is-equal xs ys = go (before xs ys) (before ys xs)
+is-equal k xs ys = go (before xs ys) (before ys xs)
   where
-    go : (b d : Bool) → isEqual (cond b Less (cond d Greater Equal)) ≡ (not b && not d)
+    go : (b d : Bool) → isEqual (cond b (Less (placeOf k xs ys)) (cond d (Greater (placeOf k xs ys)) Equal)) ≡ (not b && not d)
     go true d = refl
     go false true = refl
     go false false = refl
+
+-- less by its sign
+pub sign-less : (xs ys : List ℤ) → ltZ (signOf xs ys) (pos 0) ≡ before xs ys
+unfolding signOf
+sign-less xs ys = go (before xs ys) (before ys xs)
+  where
+    go : (b d : Bool) → ltZ (cond b (negsuc 0) (cond d (pos 1) (pos 0))) (pos 0) ≡ b
+    go true d = refl
+    go false true = refl
+    go false false = refl
+
+pub said-less : (a b : Height) (o : Order) → saidOrder o ≡ comparison a b → isLess o ≡ before (heightKey a) (heightKey b)
+unfolding comparison
+said-less a b o e = by-sign o ∙ ap (λ (c : Comparison). ltZ (c .sign) (pos 0)) e ∙ sign-less (heightKey a) (heightKey b)
+  where
+    by-sign : (o : Order) → isLess o ≡ ltZ (saidOrder o .sign) (pos 0)
+    by-sign (Less k) = refl
+    by-sign Equal = refl
+    by-sign (Greater k) = refl

@@ -1,6 +1,8 @@
 -- Laws that belong to no one function; crates above cite them too.
 pub mod Compare
+pub mod ComparisonLaws
 pub mod Moves
 pub mod OrderLaws
+pub mod Places
 pub mod Signed
 pub mod WordsLaws

@@ -1,5 +1,6 @@
 -- Definitions that the contracts of `height` cite.
 pub mod Clock
+pub mod Comparison
 pub mod Height
 pub mod Order
 pub mod Words

@@ -1,3 +1,3 @@
 -- Definitions for leaf functions and proofs: no public promise cites them. The comparison part by part, and a height stored as words.
-pub mod Comparison
+pub mod Parts
 pub mod Stored

@@ -1,19 +1,21 @@
 // The orders of heights, levels and leader pairs: lexicographic, as signed numbers.
-// Callers use the tests at the end; the cases of `Order` stay in this file.
+// There is one comparison, of heights; levels and pairs are parts of it. Callers use it and the tests at the end.
 ghost use mathlib.Core.Path.{_≡_};
 ghost use mathlib.Core.List.{[], _∷_};
 ghost use lib.IntN.{pos};
+ghost use Rattle.height.specs.Comparison.{comparison, saidOrder};
 ghost use Rattle.height.specs.Height.{levelKey, pairKey, heightKey};
 ghost use Rattle.height.specs.Order.{before, same};
-ghost use Rattle.height.specs.inner.Comparison.{orderOf, andThen, isLess, isEqual};
+ghost use Rattle.height.specs.inner.Parts.{orderOf, andThen, isLess, isEqual};
 use super::Height;
 use super::LeaderPair;
 use super::ReferenceLevel;
 
+// Less and greater have the place, 1 to 7 in the height, of the first number that differs.
 pub enum Order {
-    Less,
+    Less(u32),
     Equal,
-    Greater,
+    Greater(u32),
 }
 
 // A number as a signed one.
@@ -29,24 +31,24 @@ fn widened(x: i32) -> i64
     x as i64
 }
 
-// The order of two numbers.
-fn of_numbers(a: i64, b: i64) -> Order
-    ensures { λ r. ⌜ r ≡ orderOf (a ∷ []) (b ∷ []) ⌝ }
+// The order of two numbers that stand at a place.
+fn of_numbers(place: u32, a: i64, b: i64) -> Order
+    ensures { λ r. ⌜ r ≡ orderOf place (a ∷ []) (b ∷ []) ⌝ }
 {
     if a < b {
-        return Order::Less;
+        return Order::Less(place);
     }
     if b < a {
-        return Order::Greater;
+        return Order::Greater(place);
     }
     Order::Equal
 }
 
-// The order of two words.
-fn of_words(a: u32, b: u32) -> Order
-    ensures { λ r. ⌜ r ≡ orderOf (pos a ∷ []) (pos b ∷ []) ⌝ }
+// The order of two words that stand at a place.
+fn of_words(place: u32, a: u32, b: u32) -> Order
+    ensures { λ r. ⌜ r ≡ orderOf place (pos a ∷ []) (pos b ∷ []) ⌝ }
 {
-    of_numbers(signed(a), signed(b))
+    of_numbers(place, signed(a), signed(b))
 }
 
 // The first of two that decides.
@@ -54,36 +56,37 @@ fn and_then(first: Order, second: Order) -> Order
     ensures { λ r. ⌜ r ≡ andThen first second ⌝ }
 {
     match first {
-        Order::Less => Order::Less,
-        Order::Greater => Order::Greater,
+        Order::Less(place) => Order::Less(place),
+        Order::Greater(place) => Order::Greater(place),
         Order::Equal => second,
     }
 }
 
-pub fn of_levels(a: ReferenceLevel, b: ReferenceLevel) -> Order
-    ensures { λ r. ⌜ r ≡ orderOf (levelKey a) (levelKey b) ⌝ }
+fn of_levels(a: ReferenceLevel, b: ReferenceLevel) -> Order
+    ensures { λ r. ⌜ r ≡ orderOf 1 (levelKey a) (levelKey b) ⌝ }
 {
-    let tau = of_words(a.tau.0, b.tau.0);
-    let oid = of_words(a.oid, b.oid);
-    let r = of_words(a.r, b.r);
+    let tau = of_words(1, a.tau.0, b.tau.0);
+    let oid = of_words(2, a.oid, b.oid);
+    let r = of_words(3, a.r, b.r);
     and_then(tau, and_then(oid, r))
 }
 
-pub fn of_pairs(a: LeaderPair, b: LeaderPair) -> Order
-    ensures { λ r. ⌜ r ≡ orderOf (pairKey a) (pairKey b) ⌝ }
+fn of_pairs(a: LeaderPair, b: LeaderPair) -> Order
+    ensures { λ r. ⌜ r ≡ orderOf 5 (pairKey a) (pairKey b) ⌝ }
 {
-    let nlts = of_numbers(a.nlts.0, b.nlts.0);
-    let lid = of_words(a.lid, b.lid);
+    let nlts = of_numbers(5, a.nlts.0, b.nlts.0);
+    let lid = of_words(6, a.lid, b.lid);
     and_then(nlts, lid)
 }
 
+// The comparison of any two heights.
 pub fn of_heights(a: Height, b: Height) -> Order
-    ensures { λ r. ⌜ r ≡ orderOf (heightKey a) (heightKey b) ⌝ }
+    ensures { λ r. ⌜ saidOrder r ≡ comparison a b ⌝ }
 {
     let level = of_levels(a.level, b.level);
-    let delta = of_numbers(widened(a.delta), widened(b.delta));
+    let delta = of_numbers(4, widened(a.delta), widened(b.delta));
     let pair = of_pairs(a.pair, b.pair);
-    let id = of_words(a.id, b.id);
+    let id = of_words(7, a.id, b.id);
     and_then(level, and_then(delta, and_then(pair, id)))
 }
 
@@ -91,9 +94,9 @@ fn is_less(order: Order) -> bool
     ensures { λ r. ⌜ r ≡ isLess order ⌝ }
 {
     match order {
-        Order::Less => true,
+        Order::Less(_) => true,
         Order::Equal => false,
-        Order::Greater => false,
+        Order::Greater(_) => false,
     }
 }
 
@@ -101,9 +104,9 @@ fn is_equal(order: Order) -> bool
     ensures { λ r. ⌜ r ≡ isEqual order ⌝ }
 {
     match order {
-        Order::Less => false,
+        Order::Less(_) => false,
         Order::Equal => true,
-        Order::Greater => false,
+        Order::Greater(_) => false,
     }
 }
 

@@ -50,6 +50,14 @@ pub fn nlts_word(nlts: NegatedTime) -> u32
     (0 - nlts.0) as u32
 }
 
+// The leader pair of an election time without its sign, and a leader.
+pub fn pair_of(elected: u32, lid: u32) -> LeaderPair
+    ensures { λ r. ⌜ (r ≡ record { nlts = record { 0 = negℤ (pos elected) }; lid = lid }) × Negated (r .nlts .0) ⌝ }
+{
+    let nlts = nlts_of(elected);
+    LeaderPair { nlts, lid }
+}
+
 // The height whose words stand from `at`.
 pub fn load_height(words: &[u32], at: usize) -> Height
     requires { ⌜ at + heightSize ≤ length (now words) ⌝ }
@@ -61,11 +69,7 @@ pub fn load_height(words: &[u32], at: usize) -> Height
         r: words[at + 2],
     };
     let delta = delta_of(words[at + 3]);
-    let nlts = nlts_of(words[at + 4]);
-    let pair = LeaderPair {
-        nlts,
-        lid: words[at + 5],
-    };
+    let pair = pair_of(words[at + 4], words[at + 5]);
     Height {
         level,
         delta,

@@ -9,6 +9,7 @@ use image_snapshot::CountRead;
 use lent::Checked;
 use refusal::Refusal;
 
+mod links;
 mod print;
 mod show;
 

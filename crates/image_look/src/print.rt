@@ -17,6 +17,26 @@ pub fn after_space(k: u32) {
     number(k);
 }
 
+// A place of a height's seven numbers, and the number's name.
+pub fn place(k: u32) {
+    number(k);
+    if k == 1 {
+        text(b" search time");
+    } else if k == 2 {
+        text(b" originator");
+    } else if k == 3 {
+        text(b" bit");
+    } else if k == 4 {
+        text(b" depth");
+    } else if k == 5 {
+        text(b" election time");
+    } else if k == 6 {
+        text(b" leader");
+    } else {
+        text(b" station");
+    }
+}
+
 // The members of a set, ascending, each behind a space; a dash where there is none.
 pub fn members(set: u16) {
     if set == 0 {

@@ -3,6 +3,7 @@ ghost use Prim.Native.Nat.{_≤_};
 ghost use mathlib.Core.Path.{_≡_};
 ghost use lib.ListN.{length};
 ghost use Rattle.protocol.specs.Network.{Node};
+use super::links;
 use super::print;
 use groups::Group;
 use groups::GroupRead;
@@ -183,6 +184,7 @@ pub fn all(n: u32, image: &[u8], nodes: &[u32], channels: &[u32])
     print::end();
     stations(n, image);
     all_channels(n, channels);
+    links::all(n, nodes);
     quiet(n, nodes, channels);
     all_groups(n, nodes, channels);
 }

@@ -4,8 +4,9 @@ use mathlib.Core.Path.{_≡_}
 use lib.Signed.{ltZ}
 use mir.Syntax.{w64}
 use mir.Val.{toZ, ofZ}
+use Rattle.height.specs.Comparison.{placeOf}
 use Rattle.height.specs.Order.{before}
-use Rattle.height.specs.inner.Comparison.{orderOf}
+use Rattle.height.specs.inner.Parts.{orderOf}
 use Rattle.height.proofs.Signed.{test-lt}
 use Rattle.height.proofs.order.of_numbers.Statement.{statement}
 use Rattle.height.proofs.order.of_numbers.Tie as tie
@@ -19,15 +20,15 @@ module _ (s : tie.Start) {v : Bool} where
   more = test-lt w64 (s .args .b) (s .args .a) (s .fits .b) (s .fits .a)
 
 returns : tie.Need-returns
-unfolding orderOf before
+unfolding orderOf before placeOf
 returns c = simp (less (c .before) (c .if1 .taken))
 
 returns-2 : tie.Need-returns-2
-unfolding orderOf before
+unfolding orderOf before placeOf
 returns-2 c = simp (less (c .before .before) (c .before .if1 .left), more (c .before .before) (c .if2 .taken))
 
 returns-3 : tie.Need-returns-3
-unfolding orderOf before
+unfolding orderOf before placeOf
 returns-3 c = simp (less (c .before .before) (c .before .if1 .left), more (c .before .before) (c .if2 .left))
 
 pub of-numbers-spec : {M : Type 1} → statement M

@@ -12,7 +12,7 @@ returns c =
     let s = c .before .before .before .before .before in
     let fa : SFits w64 (s .args .a .nlts .0) = search needs in
     let fb : SFits w64 (s .args .b .nlts .0) = search needs in
-    rw (c .and-then .ensures, c .before .of-words .ensures, order-read fa fb refl refl (c .before .before .of-numbers .ensures))
+    rw (c .and-then .ensures, c .before .of-words .ensures, order-read 5 fa fb refl refl (c .before .before .of-numbers .ensures))
     (sym (order-pairs _ _))
 
 pub of-pairs-spec : {M : Type 1} → statement M

@@ -6,7 +6,7 @@ use Rattle.height.proofs.order.of_words.Tie as tie
 
 returns : tie.Need-returns
 returns c =
-    order-read (search needs) (search needs) (c .before .before .signed .ensures) (c .before .signed2 .ensures) (c .of-numbers .ensures)
+    order-read _ (search needs) (search needs) (c .before .before .signed .ensures) (c .before .signed2 .ensures) (c .of-numbers .ensures)
 
 pub of-words-spec : {M : Type 1} → statement M
 of-words-spec =

@@ -13,11 +13,11 @@ returns : tie.Need-returns
 unfolding heightAt
 returns c =
     let d = c .before .before .before .before .delta-of in
-    let n = c .before .before .nlts-of in
+    let q = c .before .pair-of in
     let fd : SFits w32 (d .result) = search needs in
     let s = c .before .before .before .before .before .before .before .before .before .before in (
-      rw (toZ-ofZ fd, d .ensures, n .ensures),
-      rw (n .ensures) (negated-word _ (c .before .before .before .shared-slice-known6 .given (s .args .at + 4) .fits)),
+      rw (toZ-ofZ fd, d .ensures, q .ensures .0),
+      q .ensures .1,
     )
 
 pub load-height-spec : {M : Type 1} → statement M
@@ -39,10 +39,10 @@ load-height-spec =
     (λ c. search needs)
     (λ c. search needs)
     (λ c. search needs)
+    (λ c. search needs)
+    (λ c. search needs)
+    (λ c. search needs)
     (λ c κs. search needs)
-    (λ c. search needs)
-    (λ c. search needs)
-    (λ c. search needs)
     (λ c. search needs)
     (λ c. search needs)
     (λ c. search needs)

@@ -1,0 +1,199 @@
+-- What the comparison of two heights says: they are the same, or the numbers before the place agree and the one at the place decides.
+-- `parts` finds one of these for every two heights, `parts-only` says that no other sign or place fits.
+use Prim.Native.Nat.{ℕ, zero, suc, _+_, _-_, _≤_, _<_}
+use native.Mathlib.Omega.{arith}
+use mathlib.Core.Bool.{true, false}
+use mathlib.Core.Path.{_≡_, refl, ap, sym, _∙_}
+use mathlib.Core.List.{List, [], _∷_}
+use lib.IntN.{ℤ, pos, negsuc, negℤ}
+use lib.ListN.{length, getD}
+use lib.Signed.{ltZ}
+use Rattle.basics.proofs.Tests.{Choice, yes!, no!, choice}
+use Rattle.height.specs.Comparison.{Comparison, comparison, signAt, signOf, placeOf, saidOrder}
+use Rattle.height.specs.Height.{levelKey, pairKey, heightKey}
+use Rattle.height.specs.Order.{before}
+use Rattle.height.specs.declared.Height.{Height}
+use Rattle.height.specs.declared.order.Order.the-variants.{Less, Equal, Greater}
+use Rattle.height.specs.declared.order.Order.{Order}
+use Rattle.height.proofs.Compare.{sign-less}
+use Rattle.height.proofs.OrderLaws.{Compared, less, equal, more, compared, before-less, before-equal, before-irrefl, before-asym}
+use Rattle.height.proofs.Places.{place-less, place-equal, place-turned, place-none}
+
+-- number k of a height, k of 1 to 7
+unfoldable pub number : ℕ → Height → ℤ
+number k h = getD (heightKey h) (k - 1) (pos 0)
+
+-- a is the smaller: before place k the numbers of a and b agree, and at k that of a is the smaller
+pub record SmallerAt (k : ℕ) (a b : Height) : Type 0 where
+  pub low : 1 ≤ k
+  pub high : k ≤ 7
+  pub agree : (j : ℕ) → 1 ≤ j → j < k → number j a ≡ number j b
+  pub decides : ltZ (number k a) (number k b) ≡ true
+
+-- what a sign and a place say of two heights
+pub data Parts (a b : Height) : Comparison → Type 0 where
+  same : a ≡ b → Parts a b (signAt (pos 0) 0)
+  smaller : (k : ℕ) → SmallerAt k a b → Parts a b (signAt (negsuc 0) k)
+  larger : (k : ℕ) → SmallerAt k b a → Parts a b (signAt (pos 1) k)
+
+-- ---- keys of one length: the first difference
+
+data Found (xs ys : List ℤ) : Type 0 where
+  none : xs ≡ ys → Found xs ys
+  below : (i : ℕ) → i < length xs → ((j : ℕ) → j < i → getD xs j (pos 0) ≡ getD ys j (pos 0))
+      → ltZ (getD xs i (pos 0)) (getD ys i (pos 0)) ≡ true → Found xs ys
+  above : (i : ℕ) → i < length ys → ((j : ℕ) → j < i → getD ys j (pos 0) ≡ getD xs j (pos 0))
+      → ltZ (getD ys i (pos 0)) (getD xs i (pos 0)) ≡ true → Found xs ys
+
+one-more : {x y : ℤ} (xs ys : List ℤ) {i : ℕ} → x ≡ y → ((j : ℕ) → j < i → getD xs j (pos 0) ≡ getD ys j (pos 0))
+    → (j : ℕ) → j < suc i → getD (x ∷ xs) j (pos 0) ≡ getD (y ∷ ys) j (pos 0)
+one-more xs ys e f zero h = e
+one-more xs ys e f (suc j) h = f j (omega arith)
+
+found : (xs ys : List ℤ) → length xs ≡ length ys → Found xs ys
+found [] [] e = none refl
+found [] (y ∷ ys) e = absurd (omega arith)
+found (x ∷ xs) [] e = absurd (omega arith)
+found (x ∷ xs) (y ∷ ys) e = go (compared x y) (found xs ys (omega arith))
+  where
+    behind : x ≡ y → Found xs ys → Found (x ∷ xs) (y ∷ ys)
+    behind d (none t) = none cc
+    behind d (below i l f p) = below (suc i) (omega (arith, l)) (one-more xs ys d f) p
+    behind d (above i l f p) = above (suc i) (omega (arith, l)) (one-more ys xs (sym d) f) p
+
+    go : Compared x y → Found xs ys → Found (x ∷ xs) (y ∷ ys)
+    go (less p) t = below 0 (omega arith) (λ j h. absurd (omega (arith, h))) p
+    go (equal d) t = behind d t
+    go (more p) t = above 0 (omega arith) (λ j h. absurd (omega (arith, h))) p
+
+-- it decides
+decided : (i k : ℕ) (xs ys : List ℤ) → i < length xs → length xs ≡ length ys → ((j : ℕ) → j < i → getD xs j (pos 0) ≡ getD ys j (pos 0))
+    → ltZ (getD xs i (pos 0)) (getD ys i (pos 0)) ≡ true → (before xs ys ≡ true) × (placeOf k xs ys ≡ k + i)
+decided i k [] ys l e f p = absurd (omega (arith, l))
+decided i k (x ∷ xs) [] l e f p = absurd (omega (arith, e))
+decided zero k (x ∷ xs) (y ∷ ys) l e f p = (before-less x y xs ys p, place-less k x y xs ys p ∙ omega arith)
+decided (suc i) k (x ∷ xs) (y ∷ ys) l e f p =
+    let d : x ≡ y = f 0 (omega arith) in
+    let t = decided i (suc k) xs ys (omega (arith, l)) (omega (arith, e)) (λ j h. f (suc j) (omega (arith, h))) p in
+    (rw d (before-equal y xs ys ∙ t .0), rw d (place-equal k y xs ys ∙ t .1 ∙ omega arith))
+
+-- ---- heights by their keys
+
+key-injective : (a b : Height) → heightKey a ≡ heightKey b → a ≡ b
+unfolding heightKey levelKey pairKey
+key-injective a b k =
+    let tau : a .level .tau .0 ≡ b .level .tau .0 = cc in
+    let oid : a .level .oid ≡ b .level .oid = cc in
+    let r : a .level .r ≡ b .level .r = cc in
+    let delta : a .delta ≡ b .delta = cc in
+    let nlts : a .pair .nlts .0 ≡ b .pair .nlts .0 = cc in
+    let lid : a .pair .lid ≡ b .pair .lid = cc in
+    let id : a .id ≡ b .id = cc in
+    λ i. record {
+      level = record { tau = record { 0 = tau i }; oid = oid i; r = r i };
+      delta = delta i;
+      pair = record { nlts = record { 0 = nlts i }; lid = lid i };
+      id = id i;
+    }
+
+number-suc : (i : ℕ) (h : Height) → number (suc i) h ≡ getD (heightKey h) i (pos 0)
+unfolding number
+number-suc i h = ap (λ (j : ℕ). getD (heightKey h) j (pos 0)) (omega arith)
+
+key-length : (h : Height) → length (heightKey h) ≡ 7
+unfolding heightKey levelKey pairKey
+key-length h = refl
+
+-- the first difference of the keys, as places
+from-key : {a b : Height} (i : ℕ) → i < length (heightKey a)
+    → ((j : ℕ) → j < i → getD (heightKey a) j (pos 0) ≡ getD (heightKey b) j (pos 0))
+    → ltZ (getD (heightKey a) i (pos 0)) (getD (heightKey b) i (pos 0)) ≡ true → SmallerAt (suc i) a b
+from-key {a} {b} i l f p =
+    record {
+      low = omega arith;
+      high = omega (arith, l, key-length a);
+      agree = agree;
+      decides = rw (number-suc i a, number-suc i b) p;
+    }
+  where
+    agree : (j : ℕ) → 1 ≤ j → j < suc i → number j a ≡ number j b
+    agree zero h t = absurd (omega (arith, h))
+    agree (suc j) h t = number-suc j a ∙ f j (omega (arith, t)) ∙ sym (number-suc j b)
+
+smaller-says : (a b : Height) (k : ℕ) → SmallerAt k a b
+    → (before (heightKey a) (heightKey b) ≡ true) × (placeOf 1 (heightKey a) (heightKey b) ≡ k)
+smaller-says a b zero s = absurd (omega (arith, s .low))
+smaller-says a b (suc i) s =
+    let t = decided i 1 (heightKey a) (heightKey b) (omega (arith, s .high, key-length a)) (key-length a ∙ sym (key-length b))
+    (λ j h. sym (number-suc j a) ∙ s .agree (suc j) (omega arith) (omega (arith, h)) ∙ number-suc j b)
+    (rw (← number-suc i a, ← number-suc i b) (s .decides)) in
+    (t .0, t .1 ∙ omega arith)
+
+-- ---- the statements
+
+-- no other sign or place fits
+pub parts-only : (a b : Height) (c : Comparison) → Parts a b c → comparison a b ≡ c
+unfolding comparison signOf
+parts-only a b c (same e) = rw (e, before-irrefl (heightKey b), place-none 1 (heightKey b) (heightKey b) (before-irrefl (heightKey b)) (before-irrefl (heightKey b)))
+parts-only a b c (smaller k s) = let t = smaller-says a b k s in rw (t .0, t .1)
+parts-only a b c (larger k s) =
+    let t = smaller-says b a k s in
+    rw (before-asym (heightKey b) (heightKey a) (t .0), t .0, ← place-turned 1 (heightKey a) (heightKey b), t .1)
+
+-- every comparison says what is so
+pub parts : (a b : Height) → Parts a b (comparison a b)
+parts a b = go (found (heightKey a) (heightKey b) (key-length a ∙ sym (key-length b)))
+  where
+    said : (c : Comparison) → Parts a b c → Parts a b (comparison a b)
+    said c p = rw (parts-only a b c p) p
+
+    go : Found (heightKey a) (heightKey b) → Parts a b (comparison a b)
+    go (none e) = said _ (same (key-injective a b e))
+    go (below i l f p) = said _ (smaller (suc i) (from-key i l f p))
+    go (above i l f p) = said _ (larger (suc i) (from-key i l f p))
+
+-- 0 exactly for equal heights
+pub place-0 : (a b : Height) → comparison a b .place ≡ 0 → a ≡ b
+place-0 a b e = go (comparison a b) e (parts a b)
+  where
+    go : (c : Comparison) → c .place ≡ 0 → Parts a b c → a ≡ b
+    go c e (same p) = p
+    go c e (smaller k s) = absurd (omega (arith, e, s .low))
+    go c e (larger k s) = absurd (omega (arith, e, s .low))
+
+pub equal-0 : (a : Height) → comparison a a ≡ signAt (pos 0) 0
+equal-0 a = parts-only a a _ (same refl)
+
+-- turned round: the same place and the other sign
+pub turned : (a b : Height) → comparison b a ≡ signAt (negℤ (comparison a b .sign)) (comparison a b .place)
+turned a b = go (comparison a b) (parts a b)
+  where
+    go : (c : Comparison) → Parts a b c → comparison b a ≡ signAt (negℤ (c .sign)) (c .place)
+    go c (same p) = parts-only b a _ (same (sym p))
+    go c (smaller k s) = parts-only b a _ (larger k s)
+    go c (larger k s) = parts-only b a _ (smaller k s)
+
+-- less exactly where the sink test's order has it
+pub less-before : (a b : Height) → ltZ (comparison a b .sign) (pos 0) ≡ before (heightKey a) (heightKey b)
+unfolding comparison
+less-before a b = sign-less (heightKey a) (heightKey b)
+
+-- no two answers say the same
+abbrev orderBy : ℤ → ℕ → Order
+orderBy (negsuc n) k = Less k
+orderBy (pos zero) k = Equal
+orderBy (pos (suc n)) k = Greater k
+
+order-back : (o : Order) → orderBy (saidOrder o .sign) (saidOrder o .place) ≡ o
+order-back (Less k) = refl
+order-back Equal = refl
+order-back (Greater k) = refl
+
+pub said-order-injective : (o q : Order) → saidOrder o ≡ saidOrder q → o ≡ q
+said-order-injective o q e = sym (order-back o) ∙ (ap (λ (c : Comparison). orderBy (c .sign) (c .place)) e ∙ order-back q)
+
+-- the seven numbers by name
+pub names : (h : Height) → (number 1 h ≡ pos (h .level .tau .0)) × (number 2 h ≡ pos (h .level .oid)) × (number 3 h ≡ pos (h .level .r))
+    × (number 4 h ≡ h .delta) × (number 5 h ≡ h .pair .nlts .0) × (number 6 h ≡ pos (h .pair .lid)) × (number 7 h ≡ pos (h .id))
+unfolding number heightKey levelKey pairKey
+names h = (refl, refl, refl, refl, refl, refl, refl)
