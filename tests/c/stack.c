@@ -9,7 +9,7 @@
 
 #include "election.h"
 
-enum { N = ELECTION_MAX_STATIONS, PAINTED = 64 * 1024, MARGIN = 4096, CALLS = 16 };
+enum { N = ELECTION_MAX_STATIONS, PAINTED = 64 * 1024, MARGIN = 4096, CALLS = 17 };
 enum { NODES = ELECTION_NODES_LEN(N), CHANNELS = ELECTION_CHANNELS_LEN(N), ROW = ELECTION_ROW_LEN(N), IMAGE = ELECTION_IMAGE_MAX(N) };
 static const uint64_t PAINT = 0xa5a5a5a5a5a5a5a5u;
 
@@ -36,6 +36,7 @@ static void quiet(void) { seen = election_quiet(N, nodes, NODES, channels, CHANN
 static void groups(void) { seen = election_groups(N, nodes, NODES, channels, CHANNELS).number; }
 static void group_of(void) { seen = election_group_of(N, N, nodes, NODES, channels, CHANNELS).number; }
 static void image_stations(void) { seen = election_image_stations(image, image_len).number; }
+static void compare(void) { seen = election_compare(election_height_at(N, 1, 1, nodes), election_height_at(N, N, 1, nodes)).place; }
 static void fresh(void) { seen = election_fresh(N, spare_nodes, NODES, spare_channels, CHANNELS).number; }
 
 static const struct {
@@ -44,7 +45,8 @@ static const struct {
 } calls[CALLS] = {{"lengths", lengths}, {"fresh", fresh},     {"check", check},         {"down", down},
                   {"up", up},           {"receive", receive}, {"receive", receive_last}, {"quiet", quiet},
                   {"groups", groups},   {"group_of", group_of}, {"save", save},          {"image_stations", image_stations},
-                  {"restore", restore}, {"read_node", read_node}, {"down", down_last},   {"up", up}};
+                  {"restore", restore}, {"read_node", read_node}, {"down", down_last},   {"up", up},
+                  {"compare", compare}};
 
 /* ---- the painted stack */
 
