@@ -6,6 +6,7 @@
 //! | Module | Section of document 01 |
 //! |---|---|
 //! | [`plot`] | What a station holds |
+//! | [`parting`] | What a station holds (the order of heights), with request [1] of document 02 |
 //! | [`step`] | The clock; The three events |
 //! | [`refusal`] | Returned numbers |
 //! | [`tables`] | Returned numbers (1 and 2), over the lent tables |
@@ -20,6 +21,7 @@ mod bits;
 mod event;
 pub mod history;
 pub mod image;
+pub mod parting;
 pub mod plot;
 pub mod quiet;
 pub mod refusal;
@@ -29,6 +31,8 @@ pub mod tables;
 
 #[cfg(test)]
 mod worked_groups;
+#[cfg(test)]
+mod worked_heights;
 #[cfg(test)]
 mod worked_images;
 #[cfg(test)]

@@ -32,8 +32,9 @@ pub struct Pair {
     pub leader: i64,
 }
 
-/// 01, 2.8 to 2.15: the seven numbers. The fields stand in the order of comparison.
-#[derive(Clone, Copy, Debug, PartialEq, Eq, PartialOrd, Ord)]
+/// 01, 2.8 to 2.15: the seven numbers. The fields stand in the order of comparison, which is that of
+/// [`crate::parting`].
+#[derive(Clone, Copy, Debug, PartialEq, Eq)]
 pub struct Height {
     pub level: Level,
     pub depth: i64,
@@ -108,6 +109,25 @@ impl Height {
             },
             station,
         }
+    }
+
+    /// The numbers that `of` makes this height of, signed and in their order (01, 2.18).
+    pub fn numbers(&self) -> [i64; 7] {
+        let Height {
+            level,
+            depth,
+            pair,
+            station,
+        } = *self;
+        [
+            level.tau,
+            level.originator,
+            level.bit,
+            depth,
+            pair.negated_time,
+            pair.leader,
+            station,
+        ]
     }
 
     /// 01, 4.7: (0, 0, 0, 0, −T, u, u); in the fresh plot with time 0 (2.30).
