@@ -1,6 +1,7 @@
 //! One plot in both: the reference's plot and the tables lent to the interface.
 
 use crate::ffi;
+use crate::heights::{compare_heights, lent_height};
 use crate::questions::{Asked, compare_stations};
 use crate::random::Random;
 use crate::tally::Tally;
@@ -60,6 +61,7 @@ impl Beside {
         );
         self.assert_same_tables();
         self.ask(tally);
+        self.ask_heights(tally);
         self.history.note(event, &answer);
         note_event(event, &answer, tally);
         answer
@@ -74,6 +76,15 @@ impl Beside {
             self.asked().compare_plot(tally);
             self.asked().compare_group_of(u, tally);
         }
+    }
+
+    /// Two stations, others at each event: their own heights, and the first one's beside what it holds for the second.
+    fn ask_heights(&self, tally: &mut Tally) {
+        let (n, count) = (self.n(), self.events as i64);
+        let (u, v) = (count % n + 1, count / n % n + 1);
+        let held = |u, v| lent_height(n, &self.tables, u, v);
+        compare_heights(held(u, u), held(v, v), tally);
+        compare_heights(held(u, u), held(u, v), tally);
     }
 
     fn asked(&self) -> Asked<'_> {

@@ -11,6 +11,7 @@ pub mod events;
 // rust/src/ffi.rs, taken in whole; it says why.
 #[path = "../../../rust/src/ffi.rs"]
 pub mod ffi;
+pub mod heights;
 pub mod histories;
 pub mod places;
 pub mod planted;

@@ -36,6 +36,25 @@ const ASKED: [&str; 10] = [
     "asked: a channel one way between groups",
 ];
 
+/// Where the heights met part.
+const PARTED: [&str; 15] = [
+    "heights: Equal, 0",
+    "heights: Less, 1",
+    "heights: Less, 2",
+    "heights: Less, 3",
+    "heights: Less, 4",
+    "heights: Less, 5",
+    "heights: Less, 6",
+    "heights: Less, 7",
+    "heights: Greater, 1",
+    "heights: Greater, 2",
+    "heights: Greater, 3",
+    "heights: Greater, 4",
+    "heights: Greater, 5",
+    "heights: Greater, 6",
+    "heights: Greater, 7",
+];
+
 /// From the fresh plots of 1 to 16 stations, with saves and resumes between, and demand 3 on every quiet network met.
 #[test]
 fn fresh_histories() {
@@ -53,6 +72,7 @@ fn fresh_histories() {
         "quiet groups of 5 to 16",
     ]);
     tally.assert_met(&ASKED);
+    tally.assert_met(&PARTED);
 }
 
 /// From planted plots: clocks and depths at their ends and full channels.
@@ -65,6 +85,7 @@ fn planted_histories() {
     tally.assert_met(&["up 7", "down 7", "receipt 7"]);
     tally.assert_met(&["receipt 8", "down 9", "receipt 9"]);
     tally.assert_met(&ASKED);
+    tally.assert_met(&PARTED);
 }
 
 /// n = 3, station 1 linked to 2 and 3; a down of 3 leaves it a sink, or alone.
