@@ -109,6 +109,15 @@ fn note_words(a: Words, b: Words, due: Parting, tally: &mut Tally) {
     }
 }
 
+/// Equal heights were met, and heights that part at each of these places, both ways.
+pub fn assert_parted(tally: &Tally, places: &[usize]) {
+    tally.assert_met(&["heights: Equal, 0"]);
+    for place in places {
+        let less = format!("heights: Less, {place}");
+        tally.assert_met(&[&less, &format!("heights: Greater, {place}")]);
+    }
+}
+
 /// Heights of any words; of few different words, so that they part anywhere; and two that part at each place. Each also beside
 /// itself.
 pub fn random_heights(seed: u64, tally: &mut Tally) {

@@ -1,17 +1,16 @@
 //! The comparison of heights beside the reference. The histories compare the heights that they meet too.
 
 use compare::ffi::{self, Comparison};
-use compare::heights::{self, interface_height};
+use compare::heights::{self, assert_parted, interface_height};
 use compare::rounds::run;
 use compare::tally::Tally;
 
-/// Every place with both orders, across the top bit of the words, by one, and with all later numbers the other way.
+/// Every place both ways, across the top bit of the words, by one, and with all later numbers the other way.
 fn assert_all_met(tally: &Tally) {
-    tally.assert_met(&["heights: Equal, 0"]);
+    assert_parted(tally, &[1, 2, 3, 4, 5, 6, 7]);
     for place in 1..=7 {
-        for kind in ["Less", "Greater", "across the top bit", "by one"] {
-            tally.assert_met(&[&format!("heights: {kind}, {place}")]);
-        }
+        let top_bit = format!("heights: across the top bit, {place}");
+        tally.assert_met(&[&top_bit, &format!("heights: by one, {place}")]);
     }
     for place in 1..=6 {
         tally.assert_met(&[&format!("heights: all behind the other way, {place}")]);
@@ -31,8 +30,7 @@ fn planted_heights() {
     assert_all_met(&tally);
 }
 
-/// Heights of document 01's plots a to i and of 001's sample execution, in the words of the tables. Order and place are worked out
-/// by hand.
+/// Heights of document 01's plots and of 001's sample execution, in the words of the tables, with order and place by hand.
 const WORKED: [([u32; 7], [u32; 7], i32, u32); 16] = [
     ([10, 2, 0, 0, 0, 1, 2], [0, 0, 0, 2, 0, 1, 3], 1, 1),
     ([0, 0, 0, 3, 0, 1, 5], [8, 6, 0, 0, 0, 1, 6], -1, 1),
