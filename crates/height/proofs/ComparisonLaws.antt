@@ -1,14 +1,12 @@
 -- What the comparison of two heights says: they are the same, or the numbers before the place agree and the one at the place decides.
 -- `parts` finds one of these for every two heights, `parts-only` says that no other sign or place fits.
-use Prim.Native.Nat.{ℕ, zero, suc, _+_, _-_, _≤_, _<_}
+use Prim.Native.Nat.{ℕ, zero, suc, _-_, _≤_, _<_}
 use native.Mathlib.Omega.{arith}
-use mathlib.Core.Bool.{true, false}
+use mathlib.Core.Bool.{true}
 use mathlib.Core.Path.{_≡_, refl, ap, sym, _∙_}
-use mathlib.Core.List.{List, [], _∷_}
 use lib.IntN.{ℤ, pos, negsuc, negℤ}
-use lib.ListN.{length, getD}
+use lib.ListN.{getD}
 use lib.Signed.{ltZ}
-use Rattle.basics.proofs.Tests.{Choice, yes!, no!, choice}
 use Rattle.height.specs.Comparison.{Comparison, comparison, signAt, signOf, placeOf, saidOrder}
 use Rattle.height.specs.Height.{levelKey, pairKey, heightKey}
 use Rattle.height.specs.Order.{before}
@@ -16,8 +14,10 @@ use Rattle.height.specs.declared.Height.{Height}
 use Rattle.height.specs.declared.order.Order.the-variants.{Less, Equal, Greater}
 use Rattle.height.specs.declared.order.Order.{Order}
 use Rattle.height.proofs.Compare.{sign-less}
-use Rattle.height.proofs.OrderLaws.{Compared, less, equal, more, compared, before-less, before-equal, before-irrefl, before-asym}
-use Rattle.height.proofs.Places.{place-less, place-equal, place-turned, place-none}
+use Rattle.height.proofs.FirstDifference.{FirstLess, Found, none, below, above, found, decided}
+use Rattle.height.proofs.Keys.{key-length, key-injective}
+use Rattle.height.proofs.OrderLaws.{before-irrefl, before-asym}
+use Rattle.height.proofs.Places.{place-turned, place-none}
 
 -- number k of a height, k of 1 to 7
 unfoldable pub number : ℕ → Height → ℤ
@@ -36,97 +36,39 @@ pub data Parts (a b : Height) : Comparison → Type 0 where
   smaller : (k : ℕ) → SmallerAt k a b → Parts a b (signAt (negsuc 0) k)
   larger : (k : ℕ) → SmallerAt k b a → Parts a b (signAt (pos 1) k)
 
--- ---- keys of one length: the first difference
-
-data Found (xs ys : List ℤ) : Type 0 where
-  none : xs ≡ ys → Found xs ys
-  below : (i : ℕ) → i < length xs → ((j : ℕ) → j < i → getD xs j (pos 0) ≡ getD ys j (pos 0))
-      → ltZ (getD xs i (pos 0)) (getD ys i (pos 0)) ≡ true → Found xs ys
-  above : (i : ℕ) → i < length ys → ((j : ℕ) → j < i → getD ys j (pos 0) ≡ getD xs j (pos 0))
-      → ltZ (getD ys i (pos 0)) (getD xs i (pos 0)) ≡ true → Found xs ys
-
-one-more : {x y : ℤ} (xs ys : List ℤ) {i : ℕ} → x ≡ y → ((j : ℕ) → j < i → getD xs j (pos 0) ≡ getD ys j (pos 0))
-    → (j : ℕ) → j < suc i → getD (x ∷ xs) j (pos 0) ≡ getD (y ∷ ys) j (pos 0)
-one-more xs ys e f zero h = e
-one-more xs ys e f (suc j) h = f j (omega arith)
-
-found : (xs ys : List ℤ) → length xs ≡ length ys → Found xs ys
-found [] [] e = none refl
-found [] (y ∷ ys) e = absurd (omega arith)
-found (x ∷ xs) [] e = absurd (omega arith)
-found (x ∷ xs) (y ∷ ys) e = go (compared x y) (found xs ys (omega arith))
-  where
-    behind : x ≡ y → Found xs ys → Found (x ∷ xs) (y ∷ ys)
-    behind d (none t) = none cc
-    behind d (below i l f p) = below (suc i) (omega (arith, l)) (one-more xs ys d f) p
-    behind d (above i l f p) = above (suc i) (omega (arith, l)) (one-more ys xs (sym d) f) p
-
-    go : Compared x y → Found xs ys → Found (x ∷ xs) (y ∷ ys)
-    go (less p) t = below 0 (omega arith) (λ j h. absurd (omega (arith, h))) p
-    go (equal d) t = behind d t
-    go (more p) t = above 0 (omega arith) (λ j h. absurd (omega (arith, h))) p
-
--- it decides
-decided : (i k : ℕ) (xs ys : List ℤ) → i < length xs → length xs ≡ length ys → ((j : ℕ) → j < i → getD xs j (pos 0) ≡ getD ys j (pos 0))
-    → ltZ (getD xs i (pos 0)) (getD ys i (pos 0)) ≡ true → (before xs ys ≡ true) × (placeOf k xs ys ≡ k + i)
-decided i k [] ys l e f p = absurd (omega (arith, l))
-decided i k (x ∷ xs) [] l e f p = absurd (omega (arith, e))
-decided zero k (x ∷ xs) (y ∷ ys) l e f p = (before-less x y xs ys p, place-less k x y xs ys p ∙ omega arith)
-decided (suc i) k (x ∷ xs) (y ∷ ys) l e f p =
-    let d : x ≡ y = f 0 (omega arith) in
-    let t = decided i (suc k) xs ys (omega (arith, l)) (omega (arith, e)) (λ j h. f (suc j) (omega (arith, h))) p in
-    (rw d (before-equal y xs ys ∙ t .0), rw d (place-equal k y xs ys ∙ t .1 ∙ omega arith))
-
--- ---- heights by their keys
-
-key-injective : (a b : Height) → heightKey a ≡ heightKey b → a ≡ b
-unfolding heightKey levelKey pairKey
-key-injective a b k =
-    let tau : a .level .tau .0 ≡ b .level .tau .0 = cc in
-    let oid : a .level .oid ≡ b .level .oid = cc in
-    let r : a .level .r ≡ b .level .r = cc in
-    let delta : a .delta ≡ b .delta = cc in
-    let nlts : a .pair .nlts .0 ≡ b .pair .nlts .0 = cc in
-    let lid : a .pair .lid ≡ b .pair .lid = cc in
-    let id : a .id ≡ b .id = cc in
-    λ i. record {
-      level = record { tau = record { 0 = tau i }; oid = oid i; r = r i };
-      delta = delta i;
-      pair = record { nlts = record { 0 = nlts i }; lid = lid i };
-      id = id i;
-    }
+-- ---- places and keys
 
 number-suc : (i : ℕ) (h : Height) → number (suc i) h ≡ getD (heightKey h) i (pos 0)
 unfolding number
 number-suc i h = ap (λ (j : ℕ). getD (heightKey h) j (pos 0)) (omega arith)
 
-key-length : (h : Height) → length (heightKey h) ≡ 7
-unfolding heightKey levelKey pairKey
-key-length h = refl
-
 -- the first difference of the keys, as places
-from-key : {a b : Height} (i : ℕ) → i < length (heightKey a)
-    → ((j : ℕ) → j < i → getD (heightKey a) j (pos 0) ≡ getD (heightKey b) j (pos 0))
-    → ltZ (getD (heightKey a) i (pos 0)) (getD (heightKey b) i (pos 0)) ≡ true → SmallerAt (suc i) a b
-from-key {a} {b} i l f p =
+from-key : (a b : Height) (i : ℕ) → FirstLess i (heightKey a) (heightKey b) → SmallerAt (suc i) a b
+from-key a b i f =
     record {
       low = omega arith;
-      high = omega (arith, l, key-length a);
+      high = omega (arith, f .inside, key-length a);
       agree = agree;
-      decides = rw (number-suc i a, number-suc i b) p;
+      decides = rw (number-suc i a, number-suc i b) (f .decides);
     }
   where
     agree : (j : ℕ) → 1 ≤ j → j < suc i → number j a ≡ number j b
     agree zero h t = absurd (omega (arith, h))
-    agree (suc j) h t = number-suc j a ∙ f j (omega (arith, t)) ∙ sym (number-suc j b)
+    agree (suc j) h t = number-suc j a ∙ f .agree j (omega (arith, t)) ∙ sym (number-suc j b)
+
+to-key : (a b : Height) (i : ℕ) → SmallerAt (suc i) a b → FirstLess i (heightKey a) (heightKey b)
+to-key a b i s =
+    record {
+      inside = omega (arith, s .high, key-length a);
+      agree = λ j h. sym (number-suc j a) ∙ s .agree (suc j) (omega arith) (omega (arith, h)) ∙ number-suc j b;
+      decides = rw (← number-suc i a, ← number-suc i b) (s .decides);
+    }
 
 smaller-says : (a b : Height) (k : ℕ) → SmallerAt k a b
     → (before (heightKey a) (heightKey b) ≡ true) × (placeOf 1 (heightKey a) (heightKey b) ≡ k)
 smaller-says a b zero s = absurd (omega (arith, s .low))
 smaller-says a b (suc i) s =
-    let t = decided i 1 (heightKey a) (heightKey b) (omega (arith, s .high, key-length a)) (key-length a ∙ sym (key-length b))
-    (λ j h. sym (number-suc j a) ∙ s .agree (suc j) (omega arith) (omega (arith, h)) ∙ number-suc j b)
-    (rw (← number-suc i a, ← number-suc i b) (s .decides)) in
+    let t = decided i 1 (heightKey a) (heightKey b) (key-length a ∙ sym (key-length b)) (to-key a b i s) in
     (t .0, t .1 ∙ omega arith)
 
 -- ---- the statements
@@ -149,8 +91,8 @@ parts a b = go (found (heightKey a) (heightKey b) (key-length a ∙ sym (key-len
 
     go : Found (heightKey a) (heightKey b) → Parts a b (comparison a b)
     go (none e) = said _ (same (key-injective a b e))
-    go (below i l f p) = said _ (smaller (suc i) (from-key i l f p))
-    go (above i l f p) = said _ (larger (suc i) (from-key i l f p))
+    go (below i f) = said _ (smaller (suc i) (from-key a b i f))
+    go (above i f) = said _ (larger (suc i) (from-key b a i f))
 
 -- 0 exactly for equal heights
 pub place-0 : (a b : Height) → comparison a b .place ≡ 0 → a ≡ b

@@ -1,6 +1,8 @@
 -- Laws that belong to no one function; crates above cite them too.
 pub mod Compare
 pub mod ComparisonLaws
+pub mod FirstDifference
+pub mod Keys
 pub mod Moves
 pub mod OrderLaws
 pub mod Places

@@ -22,7 +22,7 @@ signAt s k = record { sign = s; place = k }
 unfoldable pub signOf : List ℤ → List ℤ → ℤ
 signOf xs ys = cond (before xs ys) (negsuc 0) (cond (before ys xs) (pos 1) (pos 0))
 
--- places counted from k
+-- the place of the first number that differs, counted from k
 unfoldable pub placeOf : ℕ → List ℤ → List ℤ → ℕ
 placeOf k [] ys = 0
 placeOf k (x ∷ xs) [] = 0

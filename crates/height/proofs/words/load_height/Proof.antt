@@ -1,11 +1,9 @@
 -- `height::words::load_height` meets its contract: seven words in bounds, one field each.
 use borrow.Author.Needs.{needs}
-use Prim.Native.Nat.{_+_}
 use mir.Syntax.{w32}
 use mir.Val.{SFits}
 use mir.Facts.{toZ-ofZ}
 use Rattle.height.specs.Words.{heightAt}
-use Rattle.height.proofs.WordsLaws.{negated-word}
 use Rattle.height.proofs.words.load_height.Statement.{statement}
 use Rattle.height.proofs.words.load_height.Tie as tie
 
@@ -15,10 +13,7 @@ returns c =
     let d = c .before .before .before .before .delta-of in
     let q = c .before .pair-of in
     let fd : SFits w32 (d .result) = search needs in
-    let s = c .before .before .before .before .before .before .before .before .before .before in (
-      rw (toZ-ofZ fd, d .ensures, q .ensures .0),
-      q .ensures .1,
-    )
+    (rw (toZ-ofZ fd, d .ensures, q .ensures .0), q .ensures .1)
 
 pub load-height-spec : {M : Type 1} → statement M
 load-height-spec =
