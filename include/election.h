@@ -34,7 +34,7 @@
  * THREADS. No static data, no allocation, no lock. Calls on different memory may run at once; calls that share memory may if none
  * writes it (const marks what is only read).
  *
- * SIZE (x86-64, docs/FIRMWARE.md): 26 KB of code; ELECTION_STACK_MAX bytes of stack at most; tables and image as lent. Of the
+ * SIZE (x86-64, docs/FIRMWARE.md): 27 KB of code; ELECTION_STACK_MAX bytes of stack at most; tables and image as lent. Of the
  * C library it needs memmove and memset. The archive is for x86-64 only: docs/FIRMWARE.md says what to do on another processor.
  *
  * WHAT PASSES THE CHECK (else 2). The sets of u share no station and hold neither u nor a bit above n. A height has an originator up to n
