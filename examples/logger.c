@@ -23,7 +23,7 @@ static void show_stations(void) {
 static void show_link(void) {
     election_comparison c = election_compare(election_height_at(N, 1, 1, nodes), election_height_at(N, 2, 2, nodes));
     const char *way = !election_is_linked(N, 1, 2, nodes) ? "no link" : c.order < 0 ? "from 2 to 1" : "from 1 to 2";
-    printf("  %s; heights part at place %" PRIu32 ", %s\n", way, c.place, election_strplace(c.place));
+    printf("  %s; heights part at place %" PRIu32 ", %s\n", way, c.place, election_by_name(c.place));
 }
 
 /* ---- events */

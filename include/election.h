@@ -9,14 +9,14 @@
  * THE TABLES, in words of the machine's own byte order.
  * nodes: n rows of ELECTION_STATION_LEN(n) words, row u for station u: clock, linked set N, forming set F, then n heights, by station:
  *   its own, and what it last heard from those in N. Where k is outside N, height k, the view of k, is seven zero words.
- *   A height: search time, originator, bit, depth (two's complement), election time (not negated), leader, station.
+ *   A height: search time, originator, bit, depth (two's complement), election time (not negated), leader, station. Heights are compared
+ *   number by number in this order, the first that differs decides; the election time counts with a minus sign, so that of two elections
+ *   the later is the smaller.
  * channels: n n cells of ELECTION_CELL_LEN words, 1 to 1, 1 to 2, .. n to n: how many messages wait, then eight places of a message,
  *   oldest first. A message: a height of the sender's and its stamp. Unused places, and every word of a cell u to u, are zero.
  *   Channel u to v is up when one of u's sets has v; a channel that is down holds nothing.
- * Heights are ordered by their seven numbers in this order, the first that differs decides; the election time counts with a minus sign,
- * so that the later election is the smaller. A link leads from the larger own height to the smaller.
  * A set has station k at the bit worth 2^(k-1). A station is a collector when the leader of its own height is itself. Two stations
- * are linked when they are up both ways; a group is all that links join.
+ * are linked when they are up both ways; the link leads from the larger own height to the smaller. A group is all that links join.
  *
  * THE IMAGE of a plot is bytes, each number with its most significant bit first: the same on every machine.
  *
@@ -167,8 +167,8 @@ enum {
     ELECTION_BY_STATION = 7
 };
 
-/* A word for a place, and one for any other number. */
-static inline const char *election_strplace(uint32_t place) {
+/* The name of the number at such a place, and a text for any other. */
+static inline const char *election_by_name(uint32_t place) {
     switch (place) {
     case ELECTION_BY_NONE: return "equal";
     case ELECTION_BY_SEARCH_TIME: return "search time";
@@ -181,6 +181,14 @@ static inline const char *election_strplace(uint32_t place) {
     default: return "no place of a height";
     }
 }
+
+/* A height to be compared; election_height_at and election_height_of read one. */
+typedef struct {
+    uint32_t search_time, originator, bit;
+    int32_t depth;
+    uint32_t election_time;                            /* not negated */
+    uint32_t leader, station;
+} election_height;
 
 /* ---- answers: fields that a comment does not give are 0 when refused */
 
@@ -243,14 +251,6 @@ typedef struct {
     uint32_t members, collectors;                      /* the set of the group's stations, and of its collectors */
     uint32_t collector;                                /* the collector if there is exactly one, else 0 */
 } election_group;
-
-/* A height as seven numbers; election_height_at and election_height_of read one. */
-typedef struct {
-    uint32_t search_time, originator, bit;
-    int32_t depth;
-    uint32_t election_time;                            /* not negated */
-    uint32_t leader, station;
-} election_height;
 
 /* What a comparison of heights a and b answers. */
 typedef struct {
@@ -315,7 +315,7 @@ election_station election_read_node(const uint8_t *image, size_t image_len, uint
 /* Which of two heights is the larger, and which number decides it. Any numbers may be given; b with a is the other sign, the same place. */
 election_comparison election_compare(election_height a, election_height b);
 
-/* ---- reading the tables: 0 for n outside 1 to 16, a station outside 1 to n, and for u = v; the tables must be those for n */
+/* ---- reading the tables: 0 for n outside 1 to 16, a station outside 1 to n, and a channel from u to itself; the tables must be those for n */
 
 /* Whether station k is in a set. */
 static inline int election_contains(uint32_t set, uint32_t k) {

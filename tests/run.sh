@@ -90,6 +90,10 @@ image_shows() {
         head -c 498 "$image" | image_says 12 3 && { head -c 8 "$image"; printf '\x00\x01'; tail -c +11 "$image"; } | image_says "2 1 1" 3
 }
 
+links_shown() {
+    "$log/links" | bin/image show - | diff tests/c/links.out -
+}
+
 drawn() {
     python3 docs/draw_plot.py examples/plot.txt examples/plot.out | cmp docs/plot.svg - && python3 docs/draw_image.py | cmp docs/image.svg -
 }
@@ -107,7 +111,7 @@ step "bin/: arguments, files, links, devices, proving and progress (tests/comman
 grep '^tests: NOT RUN' "$log/step" || true
 step "the archive for C and Rust (bin/install)" bin/install "$log/installed"
 if gcc --version >"$log/step" 2>&1 && g++ --version >"$log/step" 2>&1; then
-    programs="examples/logger examples/six examples/devices tests/c/header tests/c/groups tests/c/heights"
+    programs="examples/logger examples/six examples/devices tests/c/header tests/c/groups tests/c/heights tests/c/links"
     for program in $programs; do
         step "$program.c compiles without a warning, as C and as C++" compiles "$program"
     done
@@ -122,6 +126,7 @@ if gcc --version >"$log/step" 2>&1 && g++ --version >"$log/step" 2>&1; then
     step "quiet, groups and collectors beside the same worked out another way (tests/c/groups.c)" "$log/groups"
     step "heights compared, on the table of height_cases and beside the same worked out another way (tests/c/heights.c)" "$log/heights"
     step "heights compared: the same as C++" "$log/heights.cpp"
+    step "bin/image shows what decides each link of a planted plot (tests/c/links.c)" links_shown
     step "tests/c/stack.c compiles without a warning" compiles tests/c/stack -pthread -Wl,-z,now
     step "no call takes more stack than include/election.h says (tests/c/stack.c)" "$log/stack"
     step "bin/install fills a folder to build from, and says what is wrong (tests/install.sh)" bash tests/install.sh

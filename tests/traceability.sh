@@ -1,6 +1,7 @@
 #!/usr/bin/env bash
 # Checks docs/TRACEABILITY.md against the project: every name in it exists, no cell is empty, every must-fail edit is named.
-# And two things that no proof says of the text: every public function of a library has a statement (but what the programs share, which prints), and outside `height` nothing negates a time.
+# And what no proof says of the text: every public function of a library has a statement (but what the programs share, which prints); outside `height`
+# nothing negates a time, nor makes a leader pair of a word but where a height is given as numbers.
 # A line for each thing that is wrong and exit code 1, or one line with how many names were checked.
 # The notation, in every cell but the first of a row (other text in a cell is free):
 #   `crate` File `name`, `name`    names of crates/CRATE/specs/File.antt, crates/CRATE/specs/inner/File.antt or crates/CRATE/proofs/File.antt
@@ -101,6 +102,7 @@ bare() {
 {
     for lib in crates/*/src/lib.rt; do grep -q 'io::' "$lib" || bare "${lib%/*}"/*.rt; done | sed 's/^/no statement: /'
     grep -n 'NegatedTime(\|nlts_of(\|\.negated()' crates/*/src/*.rt | grep -v '^crates/height/\|NegatedTime(0)' | sed 's/^/a time negated: /' || true
+    grep -n 'pair_of(' crates/*/src/*.rt | grep -v '^crates/height/\|^crates/abi/src/reports.rt:\|^crates/height_cases/' | sed 's/^/a leader pair made of a word: /' || true
     grep -Fxv -f "$work/there" "$work/named" | sed 's/^/not in the project: /' || true
     grep -Fxv -f "$work/named" "$work/there" | sed -n 's/^must-fail /not in the table: must-fail /p' || true
     awk -F '|' '/^\|/ { for (i = 2; i < NF; i++) if ($i ~ /^ *$/) { print "empty cell: line " FNR; break } }' "$table"

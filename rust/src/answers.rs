@@ -423,6 +423,25 @@ mod tests {
         }
     }
 
+    /// The level of rule P comes over whole.
+    #[test]
+    fn a_level_taken() {
+        let taken = ffi::Answer {
+            rule: 'P' as u32,
+            level_tau: 8,
+            level_originator: 6,
+            level_bit: 1,
+            ..DONE
+        };
+        let level = Level {
+            search_time: 8,
+            originator: 6,
+            bit: 1,
+        };
+        let rule = Step::of(taken).map(|step| step.rule);
+        assert_eq!(rule, Ok(Rule::PropagateLargestRefLevel(level)));
+    }
+
     #[test]
     fn every_number_is_itself() {
         assert_eq!(Refusal::check(0, 0, 0), Ok(()));

@@ -23,8 +23,8 @@ fn height(numbers: &[i64]) -> Height {
 
 /// The fifteen numbers of a line, and its sign.
 fn parsed(line: &str) -> (Vec<i64>, Ordering) {
-    let digits = |c: char| !c.is_ascii_digit() && c != '-';
-    let words = line.split(digits).filter(|w| !w.is_empty());
+    let between = |c: char| !c.is_ascii_digit() && c != '-';
+    let words = line.split(between).filter(|w| !w.is_empty());
     let order = match line.chars().find(|c| "<=>".contains(*c)) {
         Some('<') => Ordering::Less,
         Some('=') => Ordering::Equal,
@@ -50,7 +50,7 @@ fn the_table() {
         met[place as usize][(order as i8 + 1) as usize] += 1;
     }
     assert!(TABLE.lines().count() >= 14);
-    assert!(met[0][1] >= 1 && met[1..].iter().all(|m| m[0] + m[2] >= 2));
+    assert!(met[0][1] >= 2 && met[1..].iter().all(|m| m[0] >= 1 && m[2] >= 1));
 }
 
 #[test]
@@ -95,4 +95,27 @@ fn what_decides_a_link() {
         (linked.order, linked.place),
         (Ordering::Less, Some(Place::Depth))
     );
+}
+
+/// Tables that break a rule are read as they stand, and what stands there is compared.
+#[test]
+fn a_bit_of_7_stays() {
+    let mut nodes = [0; lent::nodes_len(2)];
+    let mut channels = [0; lent::channels_len(2)];
+    lent::fresh(2, &mut nodes, &mut channels).unwrap();
+    let own = |nodes: &[u32], k| {
+        let plot = View::new(2, nodes, &channels).unwrap();
+        plot.station(k).unwrap().own()
+    };
+    let fresh = own(&nodes, 1);
+    let bit = 3 + 2;
+    nodes[bit] = 7;
+    let seven = own(&nodes, 1);
+    nodes[bit] = 1;
+    let one = own(&nodes, 1);
+    assert_eq!((seven.level.bit, one.level.bit), (7, 1));
+    for (lower, higher) in [(fresh, one), (one, seven), (fresh, seven)] {
+        let c = higher.compare(lower);
+        assert_eq!((c.order, c.place), (Ordering::Greater, Some(Place::Bit)));
+    }
 }

@@ -1,5 +1,5 @@
-/* election_compare on the table of pairs that the Rattle program height_cases prints (crates/height_cases/stdout, from the project's folder),
- * and beside the same worked out here, another way, on pseudo-random pairs; and what the header has for heights and places.
+/* election_compare beside the same worked out here, another way: on the table of pairs that the Rattle program height_cases prints
+ * (crates/height_cases/stdout, from the project's folder) and on pseudo-random pairs; and what the header has for heights and places.
  * A line for the first thing that is wrong, and exit status 1. Compiles as C11 and as C++17.
  */
 #include <inttypes.h>
@@ -11,7 +11,7 @@
 
 static const char TABLE[] = "crates/height_cases/stdout";
 static uint32_t pairs;
-static uint32_t met[8][3]; /* by place, and by order + 1 */
+static uint32_t met[8][3]; /* pairs by place, and by order + 1 */
 
 #define MUST(test) ((test) ? (void)0 : wrong(#test, __LINE__))
 
@@ -31,14 +31,25 @@ static election_height height(numbers x) {
     return h;
 }
 
-/* a with b and b with a. */
+/* a with b, and b with a. */
 static void both_ways(election_height a, election_height b, int32_t order, uint32_t place) {
     election_comparison c = election_compare(a, b), d = election_compare(b, a);
     pairs++;
     MUST(c.order == order && c.place == place);
     MUST(d.order == -order && d.place == place);
     met[place][order + 1]++;
-    met[place][1 - order]++;
+}
+
+/* Worked out here: from the last place to the first, an earlier difference overrules the later ones. */
+static void beside(numbers a, numbers b) {
+    int32_t order = 0;
+    uint32_t place = 0;
+    for (int k = 6; k >= 0; k--)
+        if (a.at[k] != b.at[k]) {
+            order = a.at[k] < b.at[k] ? -1 : 1;
+            place = (uint32_t)k + 1;
+        }
+    both_ways(height(a), height(b), order, place);
 }
 
 /* ---- the table */
@@ -64,15 +75,16 @@ static void table(void) {
     while (line(f, &a, &sign, &b, &place)) {
         MUST(place <= 7 && (sign == '<' || sign == '=' || sign == '>'));
         both_ways(height(a), height(b), sign == '<' ? -1 : sign == '>', place);
+        beside(a, b);
     }
     fclose(f);
-    MUST(pairs >= 14);
-    for (int p = 1; p <= 7; p++)
+    MUST(pairs >= 2 * 14);
+    for (int p = 1; p <= 7; p++) /* each line counts twice: each place decides less and greater */
         MUST(met[p][0] >= 2 && met[p][1] == 0 && met[p][2] >= 2);
     MUST(met[0][0] == 0 && met[0][1] >= 2 && met[0][2] == 0);
 }
 
-/* ---- pseudo-random pairs, and what is worked out here: from the last place to the first, the earlier overrules the later */
+/* ---- pseudo-random pairs */
 
 static uint32_t word(void) {
     static uint32_t state = 2463534242;
@@ -91,22 +103,15 @@ static int64_t number(int place) {
 static void random_pairs(void) {
     for (int i = 0; i < 200000; i++) {
         numbers a, b;
-        int32_t order = 0;
-        uint32_t place = 0;
         int agree = (int)(word() % 8);
         for (int k = 0; k < 7; k++) {
             a.at[k] = number(k);
             b.at[k] = k < agree ? a.at[k] : number(k);
         }
-        for (int k = 6; k >= 0; k--)
-            if (a.at[k] != b.at[k]) {
-                order = a.at[k] < b.at[k] ? -1 : 1;
-                place = (uint32_t)k + 1;
-            }
-        both_ways(height(a), height(b), order, place);
+        beside(a, b);
     }
     for (int p = 1; p <= 7; p++)
-        MUST(met[p][0] > 1000 && met[p][1] == 0);
+        MUST(met[p][0] > 1000 && met[p][1] == 0 && met[p][2] > 1000);
     MUST(met[0][1] > 1000);
 }
 
@@ -118,10 +123,10 @@ static void names(void) {
     MUST(ELECTION_BY_BIT == ELECTION_AT_BIT + 1 && ELECTION_BY_DEPTH == ELECTION_AT_DEPTH + 1);
     MUST(ELECTION_BY_ELECTION_TIME == ELECTION_AT_ELECTION_TIME + 1 && ELECTION_BY_LEADER == ELECTION_AT_LEADER + 1);
     MUST(ELECTION_BY_STATION == ELECTION_AT_STATION + 1);
-    for (uint32_t p = 0; p <= 8; p++)
-        for (uint32_t q = 0; q < p; q++)
-            MUST(strcmp(election_strplace(p), election_strplace(q)) != 0);
-    MUST(strcmp(election_strplace(ELECTION_BY_DEPTH), "depth") == 0 && strcmp(election_strplace(9), election_strplace(8)) == 0);
+    const char *name[8] = {"equal", "search time", "originator", "bit", "depth", "election time", "leader", "station"};
+    for (uint32_t p = 0; p < 8; p++)
+        MUST(strcmp(election_by_name(p), name[p]) == 0 && strcmp(election_by_name(8), name[p]) != 0);
+    MUST(strcmp(election_by_name(0xffffffffu), election_by_name(8)) == 0);
 }
 
 /* Heights out of the tables: each word in its own field, each height from its own place. */

@@ -1,4 +1,5 @@
 -- Laws of the C interface.
+pub mod GivenLaws
 pub mod ReportLaws
 pub mod SizeLaws
 pub mod RoomLaws

@@ -1,9 +1,9 @@
--- The structs of include/election.h, read as what the calls say (crates protocol, lent, groups, image_snapshot).
+-- The structs of include/election.h, read as what the calls say (crates height, protocol, lent, groups, image_snapshot).
 -- Field by field. `sent` of an event's answer is not in what it says: it is the ones of the set. Nor is `collector` of a group's.
 use Prim.Native.Nat.{ℕ}
-use lib.IntN.{pos, negℤ}
 use Rattle.groups.specs.declared.Group.{Group}
 use Rattle.height.specs.Comparison.{Comparison, signAt}
+use Rattle.height.specs.Words.{leaderPairOf}
 use Rattle.height.specs.declared.Height.{Height}
 use Rattle.image_reader.specs.declared.NodeRecord.{NodeRecord}
 use Rattle.protocol.specs.Answer.{Said}
@@ -15,7 +15,7 @@ use Rattle.abi.specs.declared.CheckReport.{CheckReport}
 use Rattle.abi.specs.declared.GivenHeight.{GivenHeight}
 use Rattle.abi.specs.declared.GroupReport.{GroupReport}
 use Rattle.abi.specs.declared.NodeReport.{NodeReport}
-use Rattle.abi.specs.declared.OrderReport.{OrderReport}
+use Rattle.abi.specs.declared.ComparisonReport.{ComparisonReport}
 use Rattle.abi.specs.declared.SaveReport.{SaveReport}
 use Rattle.abi.specs.declared.ValueReport.{ValueReport}
 
@@ -56,9 +56,9 @@ abbrev pub heightGiven : GivenHeight → Height
 heightGiven h = record {
   level = record { tau = record { 0 = h .«search_time» }; oid = h .originator; r = h .bit };
   delta = h .depth;
-  pair = record { nlts = record { 0 = negℤ (pos (h .«election_time»)) }; lid = h .leader };
+  pair = leaderPairOf (h .«election_time») (h .leader);
   id = h .station;
 }
 
-abbrev pub saidOrderReport : OrderReport → Comparison
-saidOrderReport a = signAt (a .order) (a .place)
+abbrev pub saidComparisonReport : ComparisonReport → Comparison
+saidComparisonReport a = signAt (a .order) (a .place)

@@ -18,7 +18,7 @@ ghost use Rattle.lent.specs.Fresh.{freshOn};
 ghost use Rattle.protocol.specs.Step.{up, down, receive};
 ghost use Rattle.refusal.specs.Outcome.{outcome};
 ghost use Rattle.tables.specs.Tables.{atEntry, atExit};
-ghost use Rattle.abi.specs.Report.{saidReport, saidCheckReport, saidSaveReport, saidNodeReport, saidValueReport, saidGroupReport, saidOrderReport, heightGiven};
+ghost use Rattle.abi.specs.Report.{saidReport, saidCheckReport, saidSaveReport, saidNodeReport, saidValueReport, saidGroupReport, saidComparisonReport, heightGiven};
 ghost use Rattle.abi.specs.Sizes.{isSize, nodesLength, channelsLength, rowLength, imageLength};
 
 mod reports;
@@ -100,7 +100,7 @@ pub struct GivenHeight {
 
 // What the comparison of two heights answers: election_comparison.
 #[repr(C)]
-pub struct OrderReport {
+pub struct ComparisonReport {
     pub order: i32,
     pub place: u32,
 }
@@ -307,8 +307,8 @@ pub extern "C" fn election_read_node(
 
 // Less, equal or greater, and where they part.
 #[no_mangle]
-pub extern "C" fn election_compare(a: GivenHeight, b: GivenHeight) -> OrderReport
-    ensures { λ r. ⌜ saidOrderReport r ≡ comparison (heightGiven a) (heightGiven b) ⌝ }
+pub extern "C" fn election_compare(a: GivenHeight, b: GivenHeight) -> ComparisonReport
+    ensures { λ r. ⌜ saidComparisonReport r ≡ comparison (heightGiven a) (heightGiven b) ⌝ }
 {
     reports::of_order(height::order::of_heights(reports::given(a), reports::given(b)))
 }

@@ -15,13 +15,13 @@ ghost use Rattle.nodeset.specs.NodeSet.{digit};
 ghost use Rattle.lent.specs.Check.{saidCheck};
 ghost use Rattle.protocol.specs.Answer.{said, saidRule, carriedOut, saidRefused};
 ghost use Rattle.refusal.specs.Refusal.{why};
-ghost use Rattle.abi.specs.Report.{saidReport, saidCheckReport, saidSaveReport, saidNodeReport, saidValueReport, saidGroupReport, saidOrderReport, heightGiven};
+ghost use Rattle.abi.specs.Report.{saidReport, saidCheckReport, saidSaveReport, saidNodeReport, saidValueReport, saidGroupReport, saidComparisonReport, heightGiven};
 use super::AnswerReport;
 use super::CheckReport;
+use super::ComparisonReport;
 use super::GivenHeight;
 use super::GroupReport;
 use super::NodeReport;
-use super::OrderReport;
 use super::SaveReport;
 use super::ValueReport;
 use groups::Group;
@@ -301,12 +301,12 @@ pub fn given(h: GivenHeight) -> Height
     }
 }
 
-pub fn of_order(answer: Order) -> OrderReport
-    ensures { λ r. ⌜ saidOrderReport r ≡ saidOrder answer ⌝ }
+pub fn of_order(answer: Order) -> ComparisonReport
+    ensures { λ r. ⌜ saidComparisonReport r ≡ saidOrder answer ⌝ }
 {
     match answer {
-        Order::Less(place) => OrderReport { order: -1, place },
-        Order::Equal => OrderReport { order: 0, place: 0 },
-        Order::Greater(place) => OrderReport { order: 1, place },
+        Order::Less(place) => ComparisonReport { order: -1, place },
+        Order::Equal => ComparisonReport { order: 0, place: 0 },
+        Order::Greater(place) => ComparisonReport { order: 1, place },
     }
 }

@@ -1,25 +1,25 @@
 -- The comparison of two keys is the comparison of their beginnings and, where these are equal, of what follows; and what its answers say.
-use Prim.Native.Nat.{ℕ, suc, _+_}
+use Prim.Native.Nat.{ℕ, _+_}
 use mathlib.Core.Path.{_≡_, refl, ap, ap₂, sym, _∙_}
 use mathlib.Core.Bool.{Bool, true, false, not, cond, _&&_}
 use mathlib.Core.Logic.{_⊎_, inl, inr}
 use mathlib.Core.List.{List, [], _∷_, _++_}
-use lib.IntN.{ℤ, pos, negsuc}
+use lib.IntN.{ℤ, pos}
 use lib.ListN.{length}
-use lib.Signed.{ltZ}
 use mir.Syntax.{w64}
 use mir.Val.{SFits, toZ, ofZ}
-use Rattle.height.specs.Comparison.{Comparison, comparison, signAt, signOf, placeOf, saidOrder}
+use Rattle.height.specs.Comparison.{comparison, orderOf, placeOf, saidOrder}
 use Rattle.height.specs.Height.{levelKey, pairKey, heightKey}
 use Rattle.height.specs.Order.{before, same}
-use Rattle.height.specs.inner.Parts.{orderOf, andThen, isLess, isEqual}
+use Rattle.height.specs.inner.Parts.{andThen, isLess, isEqual}
 use Rattle.height.specs.declared.Height.{Height}
 use Rattle.height.specs.declared.LeaderPair.{LeaderPair}
 use Rattle.height.specs.declared.ReferenceLevel.{ReferenceLevel}
 use Rattle.height.specs.declared.order.Order.the-variants.{Less, Equal, Greater}
 use Rattle.height.specs.declared.order.Order.{Order}
 use Rattle.height.proofs.OrderLaws.{true-or-false, before-equal, before-append, before-asym, before-total}
-use Rattle.height.proofs.Places.{place-prefix, place-turned, place-append, place-none}
+use Rattle.height.proofs.Places.{place-prefix, place-turned, place-append}
+use Rattle.height.proofs.SaidOrder.{said-order-injective}
 use Rattle.height.proofs.Signed.{read-back}
 
 -- one beginning: what follows decides
@@ -76,16 +76,6 @@ pub order-read : {o : Order} (k : ℕ) {x y v w : ℤ} → SFits w64 v → SFits
 order-read k fv fw p q e = e ∙ ap₂ (λ (v w : ℤ). orderOf k (v ∷ []) (w ∷ [])) (read-back w64 p fv) (read-back w64 q fw)
 
 -- what the answers say
-pub said-order : (k : ℕ) (xs ys : List ℤ) → saidOrder (orderOf k xs ys) ≡ signAt (signOf xs ys) (placeOf k xs ys)
-unfolding orderOf signOf
-said-order k xs ys = go (true-or-false (before xs ys)) (true-or-false (before ys xs))
-  where
-    go : (before xs ys ≡ true) ⊎ (before xs ys ≡ false) → (before ys xs ≡ true) ⊎ (before ys xs ≡ false)
-        → saidOrder (orderOf k xs ys) ≡ signAt (signOf xs ys) (placeOf k xs ys)
-    go (inl p) q = rw p
-    go (inr p) (inl q) = rw (p, q)
-    go (inr p) (inr q) = rw (p, q, place-none k xs ys p q)
-
 pub is-less : (k : ℕ) (xs ys : List ℤ) → isLess (orderOf k xs ys) ≡ before xs ys
 unfolding orderOf
 is-less k xs ys = go (before xs ys) (before ys xs)
@@ -104,21 +94,6 @@ is-equal k xs ys = go (before xs ys) (before ys xs)
     go false true = refl
     go false false = refl
 
--- less by its sign
-pub sign-less : (xs ys : List ℤ) → ltZ (signOf xs ys) (pos 0) ≡ before xs ys
-unfolding signOf
-sign-less xs ys = go (before xs ys) (before ys xs)
-  where
-    go : (b d : Bool) → ltZ (cond b (negsuc 0) (cond d (pos 1) (pos 0))) (pos 0) ≡ b
-    go true d = refl
-    go false true = refl
-    go false false = refl
-
 pub said-less : (a b : Height) (o : Order) → saidOrder o ≡ comparison a b → isLess o ≡ before (heightKey a) (heightKey b)
 unfolding comparison
-said-less a b o e = by-sign o ∙ ap (λ (c : Comparison). ltZ (c .sign) (pos 0)) e ∙ sign-less (heightKey a) (heightKey b)
-  where
-    by-sign : (o : Order) → isLess o ≡ ltZ (saidOrder o .sign) (pos 0)
-    by-sign (Less k) = refl
-    by-sign Equal = refl
-    by-sign (Greater k) = refl
+said-less a b o e = ap isLess (said-order-injective o (orderOf 1 (heightKey a) (heightKey b)) e) ∙ is-less 1 (heightKey a) (heightKey b)

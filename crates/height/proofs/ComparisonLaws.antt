@@ -7,17 +7,18 @@ use mathlib.Core.Path.{_≡_, refl, ap, sym, _∙_}
 use lib.IntN.{ℤ, pos, negsuc, negℤ}
 use lib.ListN.{getD}
 use lib.Signed.{ltZ}
-use Rattle.height.specs.Comparison.{Comparison, comparison, signAt, signOf, placeOf, saidOrder}
+use Rattle.height.specs.Comparison.{Comparison, comparison, orderOf, placeOf, saidOrder, signAt}
 use Rattle.height.specs.Height.{levelKey, pairKey, heightKey}
 use Rattle.height.specs.Order.{before}
+use Rattle.height.specs.inner.Parts.{isLess}
 use Rattle.height.specs.declared.Height.{Height}
 use Rattle.height.specs.declared.order.Order.the-variants.{Less, Equal, Greater}
 use Rattle.height.specs.declared.order.Order.{Order}
-use Rattle.height.proofs.Compare.{sign-less}
+use Rattle.height.proofs.Compare.{is-less}
 use Rattle.height.proofs.FirstDifference.{FirstLess, Found, none, below, above, found, decided}
 use Rattle.height.proofs.Keys.{key-length, key-injective}
 use Rattle.height.proofs.OrderLaws.{before-irrefl, before-asym}
-use Rattle.height.proofs.Places.{place-turned, place-none}
+use Rattle.height.proofs.Places.{place-turned}
 
 -- number k of a height, k of 1 to 7
 unfoldable pub number : ℕ → Height → ℤ
@@ -31,10 +32,10 @@ pub record SmallerAt (k : ℕ) (a b : Height) : Type 0 where
   pub decides : ltZ (number k a) (number k b) ≡ true
 
 -- what a sign and a place say of two heights
-pub data Parts (a b : Height) : Comparison → Type 0 where
-  same : a ≡ b → Parts a b (signAt (pos 0) 0)
-  smaller : (k : ℕ) → SmallerAt k a b → Parts a b (signAt (negsuc 0) k)
-  larger : (k : ℕ) → SmallerAt k b a → Parts a b (signAt (pos 1) k)
+pub data Parting (a b : Height) : Comparison → Type 0 where
+  same : a ≡ b → Parting a b (signAt (pos 0) 0)
+  smaller : (k : ℕ) → SmallerAt k a b → Parting a b (signAt (negsuc 0) k)
+  larger : (k : ℕ) → SmallerAt k b a → Parting a b (signAt (pos 1) k)
 
 -- ---- places and keys
 
@@ -74,22 +75,22 @@ smaller-says a b (suc i) s =
 -- ---- the statements
 
 -- no other sign or place fits
-pub parts-only : (a b : Height) (c : Comparison) → Parts a b c → comparison a b ≡ c
-unfolding comparison signOf
-parts-only a b c (same e) = rw (e, before-irrefl (heightKey b), place-none 1 (heightKey b) (heightKey b) (before-irrefl (heightKey b)) (before-irrefl (heightKey b)))
+pub parts-only : (a b : Height) (c : Comparison) → Parting a b c → comparison a b ≡ c
+unfolding comparison orderOf
+parts-only a b c (same e) = rw (e, before-irrefl (heightKey b))
 parts-only a b c (smaller k s) = let t = smaller-says a b k s in rw (t .0, t .1)
 parts-only a b c (larger k s) =
     let t = smaller-says b a k s in
     rw (before-asym (heightKey b) (heightKey a) (t .0), t .0, ← place-turned 1 (heightKey a) (heightKey b), t .1)
 
 -- every comparison says what is so
-pub parts : (a b : Height) → Parts a b (comparison a b)
+pub parts : (a b : Height) → Parting a b (comparison a b)
 parts a b = go (found (heightKey a) (heightKey b) (key-length a ∙ sym (key-length b)))
   where
-    said : (c : Comparison) → Parts a b c → Parts a b (comparison a b)
+    said : (c : Comparison) → Parting a b c → Parting a b (comparison a b)
     said c p = rw (parts-only a b c p) p
 
-    go : Found (heightKey a) (heightKey b) → Parts a b (comparison a b)
+    go : Found (heightKey a) (heightKey b) → Parting a b (comparison a b)
     go (none e) = said _ (same (key-injective a b e))
     go (below i f) = said _ (smaller (suc i) (from-key a b i f))
     go (above i f) = said _ (larger (suc i) (from-key b a i f))
@@ -98,7 +99,7 @@ parts a b = go (found (heightKey a) (heightKey b) (key-length a ∙ sym (key-len
 pub place-0 : (a b : Height) → comparison a b .place ≡ 0 → a ≡ b
 place-0 a b e = go (comparison a b) e (parts a b)
   where
-    go : (c : Comparison) → c .place ≡ 0 → Parts a b c → a ≡ b
+    go : (c : Comparison) → c .place ≡ 0 → Parting a b c → a ≡ b
     go c e (same p) = p
     go c e (smaller k s) = absurd (omega (arith, e, s .low))
     go c e (larger k s) = absurd (omega (arith, e, s .low))
@@ -110,7 +111,7 @@ equal-0 a = parts-only a a _ (same refl)
 pub turned : (a b : Height) → comparison b a ≡ signAt (negℤ (comparison a b .sign)) (comparison a b .place)
 turned a b = go (comparison a b) (parts a b)
   where
-    go : (c : Comparison) → Parts a b c → comparison b a ≡ signAt (negℤ (c .sign)) (c .place)
+    go : (c : Comparison) → Parting a b c → comparison b a ≡ signAt (negℤ (c .sign)) (c .place)
     go c (same p) = parts-only b a _ (same (sym p))
     go c (smaller k s) = parts-only b a _ (larger k s)
     go c (larger k s) = parts-only b a _ (smaller k s)
@@ -118,21 +119,12 @@ turned a b = go (comparison a b) (parts a b)
 -- less exactly where the sink test's order has it
 pub less-before : (a b : Height) → ltZ (comparison a b .sign) (pos 0) ≡ before (heightKey a) (heightKey b)
 unfolding comparison
-less-before a b = sign-less (heightKey a) (heightKey b)
-
--- no two answers say the same
-abbrev orderBy : ℤ → ℕ → Order
-orderBy (negsuc n) k = Less k
-orderBy (pos zero) k = Equal
-orderBy (pos (suc n)) k = Greater k
-
-order-back : (o : Order) → orderBy (saidOrder o .sign) (saidOrder o .place) ≡ o
-order-back (Less k) = refl
-order-back Equal = refl
-order-back (Greater k) = refl
-
-pub said-order-injective : (o q : Order) → saidOrder o ≡ saidOrder q → o ≡ q
-said-order-injective o q e = sym (order-back o) ∙ (ap (λ (c : Comparison). orderBy (c .sign) (c .place)) e ∙ order-back q)
+less-before a b = by-sign (orderOf 1 (heightKey a) (heightKey b)) ∙ is-less 1 (heightKey a) (heightKey b)
+  where
+    by-sign : (o : Order) → ltZ (saidOrder o .sign) (pos 0) ≡ isLess o
+    by-sign (Less k) = refl
+    by-sign Equal = refl
+    by-sign (Greater k) = refl
 
 -- the seven numbers by name
 pub names : (h : Height) → (number 1 h ≡ pos (h .level .tau .0)) × (number 2 h ≡ pos (h .level .oid)) × (number 3 h ≡ pos (h .level .r))

@@ -6,5 +6,6 @@ pub mod Keys
 pub mod Moves
 pub mod OrderLaws
 pub mod Places
+pub mod SaidOrder
 pub mod Signed
 pub mod WordsLaws

@@ -2,7 +2,7 @@
 use Prim.Native.Nat.{ℕ, suc, _+_}
 use native.Mathlib.Omega.{arith}
 use mathlib.Core.Path.{_≡_, refl, ap, sym, _∙_}
-use mathlib.Core.Bool.{true, false}
+use mathlib.Core.Bool.{true}
 use mathlib.Core.List.{List, [], _∷_, _++_}
 use lib.IntN.{ℤ}
 use lib.ListN.{length}
@@ -10,7 +10,7 @@ use lib.Signed.{ltZ}
 use Rattle.basics.proofs.Tests.{clash}
 use Rattle.height.specs.Comparison.{placeOf}
 use Rattle.height.specs.Order.{before}
-use Rattle.height.proofs.OrderLaws.{Compared, less, equal, more, compared, Split, first, later, split, ltZ-irrefl, ltZ-asym, before-less, before-equal}
+use Rattle.height.proofs.OrderLaws.{Compared, less, equal, more, compared, Split, first, later, split, ltZ-irrefl, ltZ-asym}
 
 pub place-less : (k : ℕ) (x y : ℤ) (xs ys : List ℤ) → ltZ x y ≡ true → placeOf k (x ∷ xs) (y ∷ ys) ≡ k
 unfolding placeOf
@@ -53,18 +53,3 @@ place-append k (x ∷ xs) (y ∷ ys) h us vs = go (λ p. place-append (suc k) xs
         → Split x y xs ys → placeOf k ((x ∷ xs) ++ us) ((y ∷ ys) ++ vs) ≡ placeOf k (x ∷ xs) (y ∷ ys)
     go ih (first p) = place-less k x y (xs ++ us) (ys ++ vs) p ∙ sym (place-less k x y xs ys p)
     go ih (later e p) = rw e (place-equal k y (xs ++ us) (ys ++ vs) ∙ ih p ∙ sym (place-equal k y xs ys))
-
--- neither is smaller: no place
-pub place-none : (k : ℕ) (xs ys : List ℤ) → before xs ys ≡ false → before ys xs ≡ false → placeOf k xs ys ≡ 0
-unfolding placeOf
-place-none k [] ys h l = refl
-place-none k (x ∷ xs) [] h l = refl
-place-none k (x ∷ xs) (y ∷ ys) h l = go (place-none (suc k) xs ys) (compared x y)
-  where
-    go : (before xs ys ≡ false → before ys xs ≡ false → placeOf (suc k) xs ys ≡ 0) → Compared x y → placeOf k (x ∷ xs) (y ∷ ys) ≡ 0
-    go ih (less p) = clash (before-less x y xs ys p) h
-    go ih (equal e) =
-        let h′ : before xs ys ≡ false = sym (before-equal y xs ys) ∙ (rw e at h) in
-        let l′ : before ys xs ≡ false = sym (before-equal y ys xs) ∙ (rw e at l) in
-        rw e (place-equal k y xs ys ∙ ih h′ l′)
-    go ih (more p) = clash (before-less y x ys xs p) l

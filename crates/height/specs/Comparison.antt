@@ -19,20 +19,21 @@ pub record Comparison : Type 0 where
 abbrev pub signAt : ℤ → ℕ → Comparison
 signAt s k = record { sign = s; place = k }
 
-unfoldable pub signOf : List ℤ → List ℤ → ℤ
-signOf xs ys = cond (before xs ys) (negsuc 0) (cond (before ys xs) (pos 1) (pos 0))
-
 -- the place of the first number that differs, counted from k
 unfoldable pub placeOf : ℕ → List ℤ → List ℤ → ℕ
 placeOf k [] ys = 0
 placeOf k (x ∷ xs) [] = 0
 placeOf k (x ∷ xs) (y ∷ ys) = cond (ltZ x y || ltZ y x) k (placeOf (suc k) xs ys)
 
-unfoldable pub comparison : Height → Height → Comparison
-comparison a b = signAt (signOf (heightKey a) (heightKey b)) (placeOf 1 (heightKey a) (heightKey b))
+-- the order of two lists whose first numbers stand at place k
+unfoldable pub orderOf : ℕ → List ℤ → List ℤ → Order
+orderOf k xs ys = cond (before xs ys) (Less (placeOf k xs ys)) (cond (before ys xs) (Greater (placeOf k xs ys)) Equal)
 
 -- what each case of the answer says
 abbrev pub saidOrder : Order → Comparison
 saidOrder (Less k) = signAt (negsuc 0) k
 saidOrder Equal = signAt (pos 0) 0
 saidOrder (Greater k) = signAt (pos 1) k
+
+unfoldable pub comparison : Height → Height → Comparison
+comparison a b = saidOrder (orderOf 1 (heightKey a) (heightKey b))

@@ -7,6 +7,7 @@ use lib.ListN.{getD}
 use lib.Dec.{ltb}
 use lib.IntN.{ℤ, pos, negsuc, negℤ, natAbs}
 use Rattle.height.specs.declared.Height.{Height}
+use Rattle.height.specs.declared.LeaderPair.{LeaderPair}
 
 -- a word of 32 bits as two's complement, and back
 unfoldable pub deltaOf : ℕ → ℤ
@@ -15,6 +16,10 @@ deltaOf w = cond (ltb w 2147483648) (pos w) (negsuc (4294967295 - w))
 unfoldable pub deltaWord : ℤ → ℕ
 deltaWord (pos n) = n
 deltaWord (negsuc n) = 4294967295 - n
+
+-- the leader pair of an election time without its sign, and a leader
+abbrev pub leaderPairOf : ℕ → ℕ → LeaderPair
+leaderPairOf elected lid = record { nlts = record { 0 = negℤ (pos elected) }; lid = lid }
 
 -- a height's words, and how many
 abbrev pub heightSize : ℕ
@@ -31,6 +36,6 @@ heightAt ws i =
     record {
       level = record { tau = record { 0 = getD ws i 0 }; oid = getD ws (i + 1) 0; r = getD ws (i + 2) 0 };
       delta = deltaOf (getD ws (i + 3) 0);
-      pair = record { nlts = record { 0 = negℤ (pos (getD ws (i + 4) 0)) }; lid = getD ws (i + 5) 0 };
+      pair = leaderPairOf (getD ws (i + 4) 0) (getD ws (i + 5) 0);
       id = getD ws (i + 6) 0;
     }

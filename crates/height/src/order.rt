@@ -3,10 +3,10 @@
 ghost use mathlib.Core.Path.{_≡_};
 ghost use mathlib.Core.List.{[], _∷_};
 ghost use lib.IntN.{pos};
-ghost use Rattle.height.specs.Comparison.{comparison, saidOrder};
+ghost use Rattle.height.specs.Comparison.{comparison, orderOf, saidOrder};
 ghost use Rattle.height.specs.Height.{levelKey, pairKey, heightKey};
 ghost use Rattle.height.specs.Order.{before, same};
-ghost use Rattle.height.specs.inner.Parts.{orderOf, andThen, isLess, isEqual};
+ghost use Rattle.height.specs.inner.Parts.{andThen, isLess, isEqual};
 use super::Height;
 use super::LeaderPair;
 use super::ReferenceLevel;

@@ -4,7 +4,7 @@ ghost use mathlib.Core.Path.{_≡_};
 ghost use Prim.Native.Nat.{_+_, _≤_};
 ghost use lib.ListN.{length};
 ghost use lib.IntN.{negℤ, pos, natAbs};
-ghost use Rattle.height.specs.Words.{heightSize, deltaOf, deltaWord, heightAt};
+ghost use Rattle.height.specs.Words.{heightSize, deltaOf, deltaWord, leaderPairOf, heightAt};
 ghost use Rattle.height.specs.inner.Stored.{storedAt, Negated};
 use super::Height;
 use super::LeaderPair;
@@ -52,7 +52,7 @@ pub fn nlts_word(nlts: NegatedTime) -> u32
 
 // The leader pair of an election time without its sign, and a leader.
 pub fn pair_of(elected: u32, lid: u32) -> LeaderPair
-    ensures { λ r. ⌜ (r ≡ record { nlts = record { 0 = negℤ (pos elected) }; lid = lid }) × Negated (r .nlts .0) ⌝ }
+    ensures { λ r. ⌜ (r ≡ leaderPairOf elected lid) × Negated (r .nlts .0) ⌝ }
 {
     let nlts = nlts_of(elected);
     LeaderPair { nlts, lid }

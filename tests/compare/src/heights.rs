@@ -37,7 +37,7 @@ const GREATEST: Words = [
 ];
 
 /// The interface's form of a height.
-pub fn interface_height(words: Words) -> ffi::Height {
+fn interface_height(words: Words) -> ffi::Height {
     let [
         search_time,
         originator,

@@ -1,9 +1,11 @@
-//! The comparison of heights beside the reference. The histories compare the heights that they meet too.
+//! The comparison of heights beside the reference, and the stored table of pairs. The histories compare the heights that they meet too.
 
-use compare::ffi::{self, Comparison};
-use compare::heights::{self, assert_parted, interface_height};
+use compare::heights::{self, assert_parted};
 use compare::rounds::run;
 use compare::tally::Tally;
+use reference::parting::parting;
+use reference::plot::Height;
+use std::cmp::Ordering;
 
 /// Every place both ways, across the top bit of the words, by one, and with all later numbers the other way.
 fn assert_all_met(tally: &Tally) {
@@ -30,45 +32,30 @@ fn planted_heights() {
     assert_all_met(&tally);
 }
 
-/// Heights of document 01's plots and of 001's sample execution, in the words of the tables, with order and place by hand.
-const WORKED: [([u32; 7], [u32; 7], i32, u32); 16] = [
-    ([10, 2, 0, 0, 0, 1, 2], [0, 0, 0, 2, 0, 1, 3], 1, 1),
-    ([0, 0, 0, 3, 0, 1, 5], [8, 6, 0, 0, 0, 1, 6], -1, 1),
-    ([8, 5, 0, 0, 0, 1, 5], [8, 6, 0, 0, 0, 1, 6], -1, 2),
-    ([10, 3, 0, 0, 0, 1, 3], [10, 2, 0, 0, 0, 1, 2], 1, 2),
-    ([10, 2, 1, 0, 0, 1, 3], [10, 2, 0, 0, 0, 1, 2], 1, 3),
-    ([1, 7, 0, 0, 0, 8, 7], [1, 7, 1, MINUS_2, 0, 8, 4], -1, 3),
-    ([0, 0, 0, 1, 0, 1, 2], [0, 0, 0, 0, 0, 1, 1], 1, 4),
-    ([8, 6, 0, MINUS_1, 0, 1, 5], [8, 6, 0, 0, 0, 1, 6], -1, 4),
-    ([0, 0, 0, 0, 4, 1, 1], [0, 0, 0, 0, 0, 1, 1], -1, 5),
-    ([0, 0, 0, 0, 4, 1, 1], [0, 0, 0, 0, 12, 2, 2], 1, 5),
-    ([0, 0, 0, 0, 0, 1, 1], [0, 0, 0, 0, 0, 2, 2], -1, 6),
-    ([0, 0, 0, 0, 0, 7, 7], [0, 0, 0, 0, 0, 5, 5], 1, 6),
-    (
-        [1, 7, 0, MINUS_1, 0, 8, 4],
-        [1, 7, 0, MINUS_1, 0, 8, 5],
-        -1,
-        7,
-    ),
-    ([0, 0, 0, 1, 7, 7, 6], [0, 0, 0, 1, 7, 7, 4], 1, 7),
-    ([0, 0, 0, 1, 12, 2, 3], [0, 0, 0, 1, 12, 2, 3], 0, 0),
-    ([0; 7], [0; 7], 0, 0),
-];
+/// What the Rattle program `height_cases` writes, as the gate checks.
+const STORED: &str = include_str!("../../../crates/height_cases/stdout");
 
-const MINUS_1: u32 = u32::MAX;
-const MINUS_2: u32 = u32::MAX - 1;
+/// The numbers of a line of it: seven, seven, and the place.
+fn numbers(line: &str) -> [i64; 15] {
+    let between = |c: char| !c.is_ascii_digit() && c != '-';
+    let words = line.split(between).filter(|word| !word.is_empty());
+    let numbers: Vec<i64> = words.map(|word| word.parse().expect("a number")).collect();
+    numbers.try_into().expect("fifteen numbers")
+}
 
+/// Sign and place of every line are the reference's.
 #[test]
-fn worked_heights() {
-    let mut tally = Tally::default();
-    for (a, b, order, place) in WORKED {
-        let (first, second) = (interface_height(a), interface_height(b));
-        let turned = Comparison {
-            order: -order,
-            place,
+fn stored_table() {
+    for line in STORED.lines() {
+        let numbers = numbers(line);
+        let height = |from: usize| Height::of(numbers[from..from + 7].try_into().expect("seven"));
+        let due = parting(&height(0), &height(7));
+        let sign = match due.order {
+            Ordering::Less => ") < (",
+            Ordering::Equal => ") = (",
+            Ordering::Greater => ") > (",
         };
-        assert_eq!(ffi::compare(first, second), Comparison { order, place });
-        assert_eq!(ffi::compare(second, first), turned);
-        heights::compare_heights(a, b, &mut tally);
+        assert!(line.contains(sign), "{line}");
+        assert_eq!(numbers[14], due.place, "{line}");
     }
 }

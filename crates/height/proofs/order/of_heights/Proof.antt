@@ -5,10 +5,8 @@ use mathlib.Core.List.{[], _∷_}
 use mir.Syntax.{w32}
 use mir.Val.{SFits}
 use mir.Facts.{toZ-ofZ}
-use Rattle.height.specs.Comparison.{comparison, saidOrder}
-use Rattle.height.specs.Height.{heightKey}
-use Rattle.height.specs.inner.Parts.{orderOf}
-use Rattle.height.proofs.Compare.{order-heights, order-read, said-order}
+use Rattle.height.specs.Comparison.{comparison, orderOf, saidOrder}
+use Rattle.height.proofs.Compare.{order-heights, order-read}
 use Rattle.height.proofs.Signed.{sfits-wide}
 use Rattle.height.proofs.order.of_heights.Statement.{statement}
 use Rattle.height.proofs.order.of_heights.Tie as tie
@@ -38,7 +36,7 @@ returns c =
       delta (pairs .before),
       levels .of-levels .ensures,
     )
-    (ap saidOrder (sym (order-heights _ _)) ∙ said-order 1 (heightKey _) (heightKey _))
+    (ap saidOrder (sym (order-heights _ _)))
 
 pub of-heights-spec : {M : Type 1} → statement M
 of-heights-spec =

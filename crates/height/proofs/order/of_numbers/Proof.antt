@@ -4,9 +4,8 @@ use mathlib.Core.Path.{_≡_}
 use lib.Signed.{ltZ}
 use mir.Syntax.{w64}
 use mir.Val.{toZ, ofZ}
-use Rattle.height.specs.Comparison.{placeOf}
+use Rattle.height.specs.Comparison.{orderOf, placeOf}
 use Rattle.height.specs.Order.{before}
-use Rattle.height.specs.inner.Parts.{orderOf}
 use Rattle.height.proofs.Signed.{test-lt}
 use Rattle.height.proofs.order.of_numbers.Statement.{statement}
 use Rattle.height.proofs.order.of_numbers.Tie as tie
