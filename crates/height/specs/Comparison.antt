@@ -19,7 +19,7 @@ pub record Comparison : Type 0 where
 abbrev pub signAt : ℤ → ℕ → Comparison
 signAt s k = record { sign = s; place = k }
 
--- the place of the first number that differs, counted from k
+-- the place of the first number that differs, counted from k; 0 where none does
 unfoldable pub placeOf : ℕ → List ℤ → List ℤ → ℕ
 placeOf k [] ys = 0
 placeOf k (x ∷ xs) [] = 0
@@ -35,5 +35,6 @@ saidOrder (Less k) = signAt (negsuc 0) k
 saidOrder Equal = signAt (pos 0) 0
 saidOrder (Greater k) = signAt (pos 1) k
 
+-- the comparison of two heights, places counted from 1
 unfoldable pub comparison : Height → Height → Comparison
 comparison a b = saidOrder (orderOf 1 (heightKey a) (heightKey b))

@@ -8,7 +8,7 @@ use super::print;
 use height::Height;
 use height::order::Order;
 
-// The stations to which u is up.
+// The stations to which u is up; of both words the sixteen bits of a set.
 fn up_to(n: u32, u: u32, nodes: &[u32]) -> u16
     requires { ⌜ (n ≤ 16) × Node n u × (length (now nodes) ≡ n * width n) ⌝ }
 {
