@@ -11,14 +11,14 @@ use lib.ListN.{length, length-append}
 use Rattle.basics.proofs.Tests.{equal?}
 use Rattle.image.specs.Image.{image}
 use Rattle.image.specs.Widths.{messageWidth, heightWidth, nodeWidth}
-use Rattle.image_snapshot.specs.Save.{saveChecked, saveOn}
+use Rattle.image_snapshot.specs.Save.{saveOn}
 use Rattle.image_writing.specs.inner.Words.{cellBitsAt, cellsFromBits, cellsBits}
 use Rattle.image_writing.proofs.ImageLaws.{depth-16, counts, length-image}
 use Rattle.image_writing.proofs.LengthLaws.{own-none, length-cell, rows-le}
 use Rattle.lent.specs.Check.{checkOn}
 use Rattle.lent.proofs.SoundTables.{Words, sound-fits}
 use Rattle.protocol.specs.Network.{Node}
-use Rattle.refusal.specs.Outcome.{putFront}
+use Rattle.refusal.specs.Outcome.{putFront, putChecked}
 use Rattle.tables.specs.Cell.{count}
 use Rattle.tables.specs.Load.{load}
 use Rattle.tables.specs.Rows.{rows}
@@ -125,7 +125,7 @@ module _ (n : ℕ) (t : Tables) where
   -- a save of tables that pass the check, with room as for the longest image, is accepted
   pub save-room : Words t → checkOn n t .number ≡ 0 → (out : List ℕ) → imageLength n ≤ length out
       → saveOn n t out .said .why .number ≡ 0
-  unfolding saveOn saveChecked putFront
+  unfolding saveOn putChecked putFront
   save-room words sound out room =
       let b : length (image n (load n t)) ≤ length out = omega (arith, room, length-le (sound-fits n t words sound)) in
       rw (sound, le-leb (length (image n (load n t))) (length out) b)

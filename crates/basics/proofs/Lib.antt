@@ -2,3 +2,4 @@
 pub mod Tests
 pub mod FunctionsLaws
 pub mod AllOf
+pub mod BytesLaws

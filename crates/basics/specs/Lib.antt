@@ -1,2 +1,3 @@
 -- What the meaning is written with.
 pub mod Functions
+pub mod Bytes

@@ -1,6 +1,6 @@
 -- Laws of the bench listing.
 pub mod Listings
-pub mod PourLaws
+pub mod PieceLaws
 pub mod StationLaws
 pub mod LineRuns
 pub mod LinesRun

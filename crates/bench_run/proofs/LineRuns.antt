@@ -18,7 +18,7 @@ use Rattle.tables.specs.Tables.{Tables}
 use Rattle.text.specs.inner.Poured.{poured}
 use Rattle.bench_run.specs.Listing.{saidLine, byEvent}
 use Rattle.bench_run.specs.inner.OnTables.{commandLineOn, afterCommandOn}
-use Rattle.bench_run.proofs.PourLaws.{Poured}
+use Rattle.text.proofs.PourLaws.{Poured}
 
 -- the line's text and the tables after it
 pub record LineResult (n : ℕ) (t : Tables) (k : ℕ) (l text : List ℕ) (after : Tables) : Type 0 where

@@ -14,7 +14,7 @@ use Rattle.tables.specs.Tables.{Tables}
 use Rattle.text.specs.inner.Poured.{poured}
 use Rattle.text.proofs.TextLaws.{length-poured}
 use Rattle.bench_run.specs.inner.OnTables.{commandLineOn, afterCommandOn, eventLinesOn, afterLinesOn}
-use Rattle.bench_run.proofs.PourLaws.{Poured, then}
+use Rattle.text.proofs.PourLaws.{Poured, then}
 
 module _ (n : ℕ) (t₀ : Tables) (input : List ℕ) (from : ℕ) (out₀ : List ℕ) (at : ℕ) where
   -- line k starts at `start`; t are the tables now

@@ -17,8 +17,8 @@ use Rattle.refusal.specs.Outcome.{Outcome}
 use Rattle.tables.specs.Load.{tablesOf}
 use Rattle.tables.specs.Tables.{Tables}
 use Rattle.tables.proofs.Back.{storable, load-back}
-use Rattle.tables.proofs.RowsMore.{rows-same}
 use Rattle.tables.proofs.TablesLaws.{load-clock, load-height}
+use Rattle.text.proofs.PourLaws.{in-turn-same}
 use Rattle.bench_run.specs.Listing.{saidLine, eventNamed, byEvent, commandLine, afterCommand, eventLines, afterLines, stationLines}
 use Rattle.bench_run.specs.inner.OnTables.{commandLineOn, afterCommandOn, eventLinesOn, afterLinesOn, stationLineOn, stationLinesOn}
 
@@ -61,7 +61,7 @@ module _ (n : ℕ) (low : 1 ≤ n) (few : n ≤ 16) where
     unfolding stationLinesOn stationLineOn stationLines
     stations-same =
         let back = load-back n (s .network) (storable n (s .network) (good .fits)) in
-        rows-same n _ _ (λ i l.
+        in-turn-same n _ _ (λ i l.
         let node : Node n (suc i) = record { low = omega arith; high = l } in
         let clock = sym (load-clock n (tablesOf n (s .network)) (suc i) node) ∙ ap (λ (p : Network). p .clock (suc i)) back in
         let heights = sym (load-height n (tablesOf n (s .network)) (suc i) node) ∙ ap (λ (p : Network). p .height (suc i)) back in

@@ -1,4 +1,4 @@
--- The whole listing: its four parts poured one behind the other, by the first line, and into the room that there is.
+-- The whole listing: its four parts poured one behind the other, and by the first line.
 use Prim.Native.Nat.{ℕ, suc, _+_, _*_, _≤_, _<_}
 use native.Mathlib.Nat.{zero-add}
 use native.Mathlib.Omega.{arith}
@@ -13,29 +13,18 @@ use Rattle.basics.proofs.Tests.{clash, Choice, yes!, no!, choice}
 use Rattle.commands.specs.Commands.{linesOf, headOf}
 use Rattle.commands.specs.inner.Leaves.{toNewline}
 use Rattle.commands.proofs.LineLaws.{lines-next}
-use Rattle.lent.specs.Fresh.{freshOn}
-use Rattle.lent.proofs.CheckLaws.{is-sized}
 use Rattle.protocol.specs.Network.{fresh}
-use Rattle.refusal.specs.Outcome.{Outcome, accepted, outcome, putFront, refusedWith}
-use Rattle.refusal.specs.Refusal.{why}
-use Rattle.refusal.specs.declared.Why.{Why}
 use Rattle.tables.specs.Load.{tablesOf}
 use Rattle.tables.specs.Tables.{Tables, tables}
 use Rattle.tables.specs.inner.Fit.{Sized}
 use Rattle.tables.proofs.Sizes.{rows-small, cells-small}
 use Rattle.text.specs.inner.Poured.{poured}
-use Rattle.text.proofs.TextLaws.{poured-all}
 use Rattle.bench_run.specs.Listing.{eventHead, stationHead, badPlot, eventLines, afterLines, stationLines, plotListing, headed, listing}
-use Rattle.bench_run.specs.Run.{runOn}
 use Rattle.bench_run.specs.inner.OnTables.{eventLinesOn, afterLinesOn, stationLineOn, stationLinesOn}
 use Rattle.bench_run.proofs.Listings.{events-same, stations-after}
-use Rattle.bench_run.proofs.PourLaws.{Poured, then}
+use Rattle.text.proofs.PourLaws.{Poured, then}
 
 -- ---- the tables
-
-pub made-fresh : (n : ℕ) (t : Tables) → Sized n t → {s : Why} {u : Tables} → outcome s u ≡ freshOn n t → u ≡ tablesOf n fresh
-unfolding freshOn
-made-fresh n t size e = ap (λ (f : Outcome Why Tables). f .after) (rw (is-sized n t size) at e)
 
 -- the station lines look at the rows only
 rows-only : (n : ℕ) (ns cs : List ℕ) → stationLinesOn n (tables ns []) ≡ stationLinesOn n (tables ns cs)
@@ -108,18 +97,6 @@ module _ (input : List ℕ) where
     pub listing-plot : (headOf (take end input) ≡ 0 → ⊥) → listing input ≡ plotListing (headOf (take end input)) (linesOf (drop (end + 1) input))
     unfolding listing headed
     listing-plot d = rw (le-leb (length input) 65536 short, first, ne-eqb (headOf (take end input)) 0 d)
-
--- ---- the room
-
-pub run-no-room : (input out : List ℕ) {size : ℕ} → size ≡ length (listing input) → length out < size
-    → outcome (refusedWith 0 (why 14 0 0)) out ≡ runOn input out
-unfolding runOn putFront
-run-no-room input out e h = rw (lt-leb (length (listing input)) (length out) (rw e at h))
-
-pub run-room : (input out after : List ℕ) {size : ℕ} → size ≡ length (listing input) → size ≤ length out → after ≡ poured out 0 (listing input)
-    → outcome (accepted size) after ≡ runOn input out
-unfolding runOn putFront
-run-room input out after e h b = rw (e, b, poured-all out (listing input) (rw e at h), le-leb (length (listing input)) (length out) (rw e at h))
 
 -- ---- sizes
 

@@ -12,8 +12,7 @@ use Rattle.protocol.specs.Answer.{Said, saidRefused}
 use Rattle.protocol.specs.Network.{Network, fresh, own}
 use Rattle.protocol.specs.Refusal.{answer, next}
 use Rattle.protocol.specs.Step.{Event, up, down, receive}
-use Rattle.tables.specs.Rows.{rows}
-use Rattle.text.specs.Text.{decimal}
+use Rattle.text.specs.Text.{decimal, inTurn}
 
 -- ---- fixed lines
 
@@ -68,7 +67,7 @@ unfoldable pub stationLine : ℕ → ℕ → ℕ → List ℕ
 stationLine u leader clock = decimal u ++ (32 ∷ (decimal leader ++ (32 ∷ (decimal clock ++ (10 ∷ [])))))
 
 unfoldable pub stationLines : ℕ → Network → List ℕ
-stationLines n p = rows n (λ u. stationLine u (own p u .pair .lid) (p .clock u))
+stationLines n p = inTurn n (λ u. stationLine u (own p u .pair .lid) (p .clock u))
 
 -- ---- the whole output
 

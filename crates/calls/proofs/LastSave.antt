@@ -7,10 +7,11 @@ use mathlib.Core.Logic.{_⊎_, inl, inr}
 use mathlib.Core.Path.{_≡_, refl, sym, ap, _∙_}
 use lib.Dec.{eqb}
 use borrow.Author.Tests.{eqb-true, eqb-false}
+use Rattle.basics.specs.Bytes.{sameBytes}
+use Rattle.basics.proofs.BytesLaws.{same-bytes, bytes-same}
 use Rattle.basics.proofs.Tests.{clash, Choice, yes!, no!, choice}
 use Rattle.refusal.specs.Outcome.{Outcome}
-use Rattle.calls.specs.Run.{Call, event, save, restore, Calls, Saved, RunState, Earlier, savedAt, sameBytes, lastSave, act, perform}
-use Rattle.calls.proofs.SavesLaws.{same-bytes, bytes-same}
+use Rattle.calls.specs.Run.{Call, event, save, restore, Calls, Saved, RunState, Earlier, savedAt, lastSave, act, perform}
 
 module _ {A : Type 0} (calls : Calls A) (b : List ℕ) where
   -- the call is no accepted save that wrote b

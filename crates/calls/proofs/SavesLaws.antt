@@ -1,36 +1,20 @@
--- The last save that wrote given bytes: equal bytes are told exactly, and the newest such save counts. What each call does to the saves and to the
+-- The last save that wrote given bytes: the newest such save counts. What each call does to the saves and to the
 -- history, whatever it is made on: accepted events enter, accepted saves are kept, an accepted restore puts the history back.
 use Prim.Native.Nat.{ℕ}
 use native.Mathlib.Omega.{arith}
-use mathlib.Core.Bool.{true, cond}
+use mathlib.Core.Bool.{cond}
 use mathlib.Core.List.{List, [], _∷_}
 use mathlib.Core.Path.{_≡_, refl, sym, ap, _∙_}
 use lib.Dec.{eqb}
-use borrow.Author.Tests.{eqb-true, eq-eqb, ne-eqb}
+use borrow.Author.Tests.{eq-eqb, ne-eqb}
+use Rattle.basics.specs.Bytes.{sameBytes}
 use Rattle.basics.proofs.AllOf.{AllOf, more}
-use Rattle.basics.proofs.Tests.{clash, not-true-is-false, Choice, yes!, no!, choice, and-left, and-right, and-both}
+use Rattle.basics.proofs.BytesLaws.{same-bytes, bytes-same}
+use Rattle.basics.proofs.Tests.{not-true-is-false, Choice, yes!, no!, choice}
 use Rattle.protocol.specs.Step.{Event}
 use Rattle.refusal.specs.Outcome.{Outcome}
 use Rattle.calls.specs.History.{entry}
-use Rattle.calls.specs.Run.{Call, event, save, restore, Calls, Saved, RunState, startOfRun, Earlier, savedAt, sameBytes, lastSave, historyAt, act}
-
--- ---- the test of two lists of bytes is equality
-
-pub same-bytes : (xs ys : List ℕ) → sameBytes xs ys ≡ true → xs ≡ ys
-same-bytes [] [] e = refl
-same-bytes [] (y ∷ ys) e = clash e refl
-same-bytes (x ∷ xs) [] e = clash e refl
-same-bytes (x ∷ xs) (y ∷ ys) e =
-    let h = eqb-true x y (and-left (eqb x y) (sameBytes xs ys) e) in
-    let t = same-bytes xs ys (and-right (eqb x y) (sameBytes xs ys) e) in
-    cc
-
-pub bytes-same : (xs ys : List ℕ) → xs ≡ ys → sameBytes xs ys ≡ true
-bytes-same xs ys e = rw e (itself ys)
-  where
-    itself : (zs : List ℕ) → sameBytes zs zs ≡ true
-    itself [] = refl
-    itself (z ∷ zs) = and-both (eq-eqb z z refl) (itself zs)
+use Rattle.calls.specs.Run.{Call, event, save, restore, Calls, Saved, RunState, startOfRun, Earlier, savedAt, lastSave, historyAt, act}
 
 -- ---- the last save
 

@@ -1,10 +1,11 @@
 -- Lists of calls: document 01, "Lists of calls". Events, saves and restores, refused ones among them; every call brings its own numbers.
 -- What calls are made on (lent tables, or a network), and what each answers and leaves there, are parameters (`Calls`).
 use Prim.Native.Nat.{ℕ}
-use mathlib.Core.Bool.{Bool, true, false, cond, _&&_}
+use mathlib.Core.Bool.{cond}
 use mathlib.Core.List.{List, [], _∷_}
 use mathlib.Core.Path.{_≡_}
 use lib.Dec.{eqb}
+use Rattle.basics.specs.Bytes.{sameBytes}
 use Rattle.basics.specs.Functions.{afterAll}
 use Rattle.protocol.specs.Answer.{Said}
 use Rattle.protocol.specs.Step.{Event}
@@ -40,12 +41,6 @@ pub record RunState (A : Type 0) : Type 0 where
 
 abbrev pub startOfRun : {A : Type 0} → A → RunState A
 startOfRun a = record { now = a; history = []; saves = [] }
-
-abbrev pub sameBytes : List ℕ → List ℕ → Bool
-sameBytes [] [] = true
-sameBytes [] (y ∷ ys) = false
-sameBytes (x ∷ xs) [] = false
-sameBytes (x ∷ xs) (y ∷ ys) = eqb x y && sameBytes xs ys
 
 -- the last save that wrote these bytes; of no restore that is allowed and accepted it is `never`
 pub data Earlier (A : Type 0) : Type 0 where

@@ -16,7 +16,7 @@ pub enum Command {
     Refused(Refusal),
 }
 
-fn is_digit(b: u8) -> bool
+pub fn is_digit(b: u8) -> bool
     ensures { λ r. ⌜ r ≡ isDigit b ⌝ }
 {
     (b'0' <= b) & (b <= b'9')
@@ -41,7 +41,7 @@ fn two_digits(a: u8, b: u8) -> u32
 }
 
 // A number of one or two digits, or 100.
-fn number(bytes: &[u8]) -> u32
+pub fn number(bytes: &[u8]) -> u32
     ensures { λ r. ⌜ r ≡ numberOf (now (bytes .entry)) ⌝ }
 {
     if bytes.len() == 1 {

@@ -16,7 +16,7 @@ use Rattle.image_reading.specs.Header.{headerOf}
 use Rattle.image_reading.specs.declared.Fields.{Fields}
 use Rattle.lent.specs.Check.{checkOn}
 use Rattle.protocol.specs.Network.{isNode}
-use Rattle.refusal.specs.Outcome.{Answered, outcome, putFront}
+use Rattle.refusal.specs.Outcome.{Answered, outcome, putFront, putChecked}
 use Rattle.refusal.specs.Refusal.{why}
 use Rattle.refusal.specs.declared.Why.{Why}
 use Rattle.tables.specs.Load.{load}
@@ -25,7 +25,7 @@ use Rattle.image_snapshot.specs.ReadNode.{nodePlaced, nodeExamined, node
 use Rattle.image_snapshot.specs.Restore.{restoreExamined, restoreOf, restoreHeaded, restoreOn}
 use Rattle.image.specs.Widths.{headerLength, depthWidth}
 use Rattle.height.specs.Words.{heightSize}
-use Rattle.image_snapshot.specs.Save.{saveChecked, saveOn}
+use Rattle.image_snapshot.specs.Save.{saveOn}
 
 -- ---- a save
 
@@ -38,7 +38,7 @@ put-kept b out z = go (choice (leb (length b) (length out))) z
     go (no! e) z = rw e
 
 pub save-kept : (n : ℕ) (t : Tables) (out : List ℕ) → (saveOn n t out .said .why .number ≡ 0 → ⊥) → saveOn n t out .after ≡ out
-unfolding saveOn saveChecked
+unfolding saveOn putChecked
 save-kept n t out z = go (choice (eqb (checkOn n t .number) 0)) z
   where
     go : Choice (eqb (checkOn n t .number) 0) → (saveOn n t out .said .why .number ≡ 0 → ⊥) → saveOn n t out .after ≡ out

@@ -21,7 +21,7 @@ use Rattle.lent.proofs.SoundTables.{Words, sound-fits as tables-fit}
 use Rattle.protocol.specs.Network.{Network}
 use Rattle.protocol.proofs.SoundStep.{sound-fits}
 use Rattle.protocol.proofs.Soundness.{Fits}
-use Rattle.refusal.specs.Outcome.{putFront}
+use Rattle.refusal.specs.Outcome.{putFront, putChecked}
 use Rattle.tables.specs.Cell.{messageWords}
 use Rattle.tables.specs.Load.{load, tablesOf}
 use Rattle.tables.specs.Records.{recordsOf}
@@ -30,7 +30,7 @@ use Rattle.tables.specs.inner.Fit.{Sized, TablesFit}
 use Rattle.tables.proofs.RecordsLaws.{Agree, network-shaped, made-sized, tables-tell}
 use Rattle.tables.proofs.TablesLaws.{tables-back}
 use Rattle.image_snapshot.specs.Restore.{restoreOn}
-use Rattle.image_snapshot.specs.Save.{saveChecked, saveOn}
+use Rattle.image_snapshot.specs.Save.{saveOn}
 use Rattle.image.specs.Widths.{headerLength, depthWidth}
 use Rattle.image_snapshot.proofs.AcceptedLaws.{HeaderGood, ExaminedGood, restore-good}
 
@@ -90,7 +90,7 @@ module _ (xs : List ℕ) (bytes : Below 256 xs) (head : HeaderGood xs) (good : E
 
 pub save-restored : (xs : List ℕ) → Below 256 xs → (t : Tables) → restoreOn xs t .said .number ≡ 0
     → (out : List ℕ) → saveOn (field xs 16 5) (restoreOn xs t .after) out ≡ putFront xs out
-unfolding saveOn saveChecked
+unfolding saveOn putChecked
 save-restored xs bytes t zero out =
     let g = restore-good xs t zero in
     rw (g .after-is, passes xs bytes (g .header) (g .contents), image-again xs bytes (g .header) (g .contents))

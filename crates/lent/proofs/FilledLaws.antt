@@ -19,8 +19,9 @@ use Rattle.nodeset.specs.NodeSet.{member}
 use Rattle.nodeset.proofs.Members.{none-in-zero}
 use Rattle.protocol.specs.Network.{Node, atNodes, atPairs, freshHeight, fresh}
 use Rattle.protocol.proofs.Restrict.{nodes-is, pairs-is, same-nodes, same-pairs}
-use Rattle.refusal.specs.Outcome.{outcome}
+use Rattle.refusal.specs.Outcome.{Outcome, outcome}
 use Rattle.refusal.specs.Refusal.{why}
+use Rattle.refusal.specs.declared.Why.{Why}
 use Rattle.tables.specs.Cell.{queue}
 use Rattle.tables.specs.inner.Written.{emptied, putHeight, putNode}
 use Rattle.tables.specs.Load.{load, tablesOf, clockAt, neighborsAt, formingAt, heightsAt, messagesOn}
@@ -35,6 +36,7 @@ use Rattle.tables.proofs.TablesLaws.{tables-back}
 use Rattle.tables.proofs.WordRuns.{part-run, run-zero}
 use Rattle.tables.proofs.Wordy.{Wordy}
 use Rattle.lent.specs.Fresh.{freshOn}
+use Rattle.lent.proofs.CheckLaws.{is-sized}
 
 -- ---- zero words
 
@@ -213,3 +215,8 @@ module _ (n : ℕ) (t : Tables) where
   pub fresh-sizes : sized n t ≡ false → outcome (why 1 0 0) t ≡ freshOn n t
   unfolding freshOn
   fresh-sizes e = rw e
+
+-- what `fresh` leaves in tables of the right sizes
+pub made-fresh : (n : ℕ) (t : Tables) → Sized n t → {s : Why} {u : Tables} → outcome s u ≡ freshOn n t → u ≡ tablesOf n fresh
+unfolding freshOn
+made-fresh n t size e = ap (λ (f : Outcome Why Tables). f .after) (rw (is-sized n t size) at e)

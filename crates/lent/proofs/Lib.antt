@@ -5,3 +5,4 @@ pub mod SoundTables
 pub mod SoundNetworks
 pub mod SoundLoads
 pub mod FilledLaws
+pub mod PutLaws

@@ -8,7 +8,7 @@ use lib.Dec.{eqb}
 use denote.Enum.Declared.{tagOf}
 use types.Run.{OneOf, miss}
 use Rattle.refusal.specs.Refusal.{why, whyOf}
-use Rattle.refusal.specs.declared.Refusal.the-variants.{ChannelFull, TooShort, BadHeader, BadEnd, NotPlace, NoRoom, Malformed}
+use Rattle.refusal.specs.declared.Refusal.the-variants.{ChannelFull, TooShort, BadHeader, BadEnd, NotPlace, NoRoom, Malformed, NotDrawing, BadLink}
 use Rattle.refusal.specs.declared.Refusal.the-variants.{Sizes, Fault, NodeNumber, AlreadyUp, AlreadyDown, NoMessage, ClockEnd, DeltaEnd}
 use Rattle.refusal.specs.declared.Refusal.{Refusal}
 use Rattle.refusal.specs.declared.Why.{Why}
@@ -20,7 +20,8 @@ reasonFrom w =
     (cond (eqb (w .number) 4) AlreadyUp (cond (eqb (w .number) 5) AlreadyDown (cond (eqb (w .number) 6) NoMessage
     (cond (eqb (w .number) 7) ClockEnd (cond (eqb (w .number) 8) DeltaEnd (cond (eqb (w .number) 9) ChannelFull
     (cond (eqb (w .number) 10) TooShort (cond (eqb (w .number) 11) BadHeader (cond (eqb (w .number) 12) BadEnd
-    (cond (eqb (w .number) 13) NotPlace (cond (eqb (w .number) 14) NoRoom Malformed)))))))))))))
+    (cond (eqb (w .number) 13) NotPlace (cond (eqb (w .number) 14) NoRoom (cond (eqb (w .number) 15) Malformed
+    (cond (eqb (w .number) 16) NotDrawing BadLink)))))))))))))))
 
 pub reason-back : (r : Refusal) → reasonFrom (whyOf r) ≡ r
 unfolding reasonFrom
@@ -39,6 +40,8 @@ reason-back BadEnd = refl
 reason-back NotPlace = refl
 reason-back NoRoom = refl
 reason-back Malformed = refl
+reason-back NotDrawing = refl
+reason-back BadLink = refl
 
 pub why-injective : (r s : Refusal) → whyOf r ≡ whyOf s → r ≡ s
 why-injective r s e = sym (reason-back r) ∙ (ap reasonFrom e ∙ reason-back s)
@@ -60,15 +63,17 @@ never-0 BadEnd = refl
 never-0 NotPlace = refl
 never-0 NoRoom = refl
 never-0 Malformed = refl
+never-0 NotDrawing = refl
+never-0 BadLink = refl
 
 -- ---- reasons without a pair: all but 2
 
 abbrev pub Pairless : Refusal → Type 0
-Pairless r = OneOf (0 ∷ 2 ∷ 3 ∷ 4 ∷ 5 ∷ 6 ∷ 7 ∷ 8 ∷ 9 ∷ 10 ∷ 11 ∷ 12 ∷ 13 ∷ 14 ∷ []) (tagOf reasons.the-type r)
+Pairless r = OneOf (0 ∷ 2 ∷ 3 ∷ 4 ∷ 5 ∷ 6 ∷ 7 ∷ 8 ∷ 9 ∷ 10 ∷ 11 ∷ 12 ∷ 13 ∷ 14 ∷ 15 ∷ 16 ∷ []) (tagOf reasons.the-type r)
 
 pairless-said : (r : Refusal) → Pairless r → why (whyOf r .number) 0 0 ≡ whyOf r
 pairless-said Sizes k = refl
-pairless-said (Fault u v) k = absurd (miss (0 ∷ 2 ∷ 3 ∷ 4 ∷ 5 ∷ 6 ∷ 7 ∷ 8 ∷ 9 ∷ 10 ∷ 11 ∷ 12 ∷ 13 ∷ 14 ∷ []) 1 tt k)
+pairless-said (Fault u v) k = absurd (miss (0 ∷ 2 ∷ 3 ∷ 4 ∷ 5 ∷ 6 ∷ 7 ∷ 8 ∷ 9 ∷ 10 ∷ 11 ∷ 12 ∷ 13 ∷ 14 ∷ 15 ∷ 16 ∷ []) 1 tt k)
 pairless-said NodeNumber k = refl
 pairless-said AlreadyUp k = refl
 pairless-said AlreadyDown k = refl
@@ -82,6 +87,8 @@ pairless-said BadEnd k = refl
 pairless-said NotPlace k = refl
 pairless-said NoRoom k = refl
 pairless-said Malformed k = refl
+pairless-said NotDrawing k = refl
+pairless-said BadLink k = refl
 
 module _ (r : Refusal) (number : ℕ) (e : number ≡ whyOf r .number) where
   pub with-pair : {u v : ℕ} → r ≡ Fault u v → why number u v ≡ whyOf r

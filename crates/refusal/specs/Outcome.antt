@@ -35,3 +35,7 @@ afterCheck none c x = cond (eqb (c .number) 0) x (refusedWith none c)
 unfoldable pub putFront : List ℕ → List ℕ → Outcome (Answered ℕ) (List ℕ)
 putFront b out =
     cond (leb (length b) (length out)) (outcome (accepted (length b)) (b ++ drop (length b) out)) (outcome (refusedWith 0 (why 14 0 0)) out)
+
+-- by what a check says: its refusal, and nothing is written; else bytes to the front
+unfoldable pub putChecked : Why → List ℕ → List ℕ → Outcome (Answered ℕ) (List ℕ)
+putChecked c b out = cond (eqb (c .number) 0) (putFront b out) (outcome (refusedWith 0 c) out)

@@ -19,6 +19,8 @@ pub enum Refusal {
     NotPlace, // 13
     NoRoom, // 14
     Malformed, // 15
+    NotDrawing, // 16
+    BadLink, // 17
 }
 
 // The returned number; for 2 the pair at fault, else 0 and 0.
@@ -48,6 +50,8 @@ pub fn number(reason: Refusal) -> u32
         Refusal::NotPlace => 13,
         Refusal::NoRoom => 14,
         Refusal::Malformed => 15,
+        Refusal::NotDrawing => 16,
+        Refusal::BadLink => 17,
     }
 }
 

@@ -28,7 +28,7 @@ use Rattle.image_reading.specs.Examine.{afterWalk, examined}
 use Rattle.image_reading.specs.Header.{headerHolds, headerOf}
 use Rattle.image_reading.specs.Walk.{channelStep, onward, steps, channelsFromWalk, channelsWalk, walk, endsAt}
 use Rattle.image_snapshot.specs.Restore.{restoreExamined, restoreOf, restoreHeaded, restoreOn}
-use Rattle.image_snapshot.specs.Save.{saveChecked, saveOn}
+use Rattle.image_snapshot.specs.Save.{saveOn}
 use Rattle.lent.specs.Check.{pairAt, faultInRow, faultFrom, firstFault, checkOn}
 use Rattle.nodeset.specs.NodeSet.{member, setOf, within, sameNode, apart, leastFrom, lowest}
 use Rattle.pairs.specs.Pair.{ownSound, viewSound, channelSound, pairSound}
@@ -40,7 +40,7 @@ use Rattle.protocol.specs.Refusal.{misnamed, late, hasRoom, crowded, returned, 
 use Rattle.protocol.specs.Rules.{absent, downRule, larger, largest, deltas, ofLevel, oneLevelRule, equalPairsRule, receiptRule}
 use Rattle.protocol.specs.Sink.{above, sink}
 use Rattle.protocol.specs.Step.{up, down, receive, carried, localUp, localDown, localIgnored, localTaken, post, commit, step}
-use Rattle.refusal.specs.Outcome.{accepted, outcome, putFront, refusedWith}
+use Rattle.refusal.specs.Outcome.{accepted, outcome, putFront, refusedWith, putChecked}
 use Rattle.refusal.specs.Refusal.{why}
 use Rattle.tables.specs.Cell.{messageAt, messagesAt, queue, allZero, messageWords}
 use Rattle.tables.specs.Load.{load, tablesOf}
@@ -184,7 +184,7 @@ unfolding bits number unpacked packed field spread gathered stepAt stepChecked s
     deltaHolds leaderPairHolds heightHolds messageHolds notInBoth setsHold misnamed late hasRoom crowded returned accepts answer next absent
     downRule larger largest deltas ofLevel oneLevelRule equalPairsRule receiptRule above sink carried localUp localDown localIgnored
     localTaken post commit step afterWalk examined headerHolds headerOf channelStep onward steps channelsFromWalk channelsWalk walk endsAt
-    restoreExamined restoreOf restoreHeaded restoreOn putFront saveChecked saveOn messageAt messagesAt queue allZero messageWords
+    restoreExamined restoreOf restoreHeaded restoreOn putFront putChecked saveOn messageAt messagesAt queue allZero messageWords
     load tablesOf heightIn rowAt rows sized reply tablesAfter nodePlace pairQuiet quiet sameNode apart leastFrom lowest linked reached oneRound
     rounds groupBy groupOf isHead headsOf collects collectorsIn quietOn headsOn groupNamed groupOn
 computed = record {

@@ -7,9 +7,10 @@ use mathlib.Core.Logic.{inl, inr}
 use mathlib.Core.Path.{_≡_, refl, sym, ap, subst, _∙_}
 use borrow.Author.Tests.{eq-eqb, ne-eqb}
 use lib.Dec.{eqb}
+use Rattle.basics.specs.Bytes.{sameBytes}
 use Rattle.basics.proofs.Tests.{Choice, yes!, no!, choice, SameOrNot, equal?}
 use Rattle.calls.specs.History.{advance}
-use Rattle.calls.specs.Run.{Call, event, save, restore, Saved, RunState, startOfRun, sameBytes, Earlier, never, savedAt, lastSave}
+use Rattle.calls.specs.Run.{Call, event, save, restore, Saved, RunState, startOfRun, Earlier, never, savedAt, lastSave}
 use Rattle.calls.specs.Run.{steppedTo, savedTo, act, perform, Fair, fairEvent, fairSave, fairSaved, fairRefused, AllFair}
 use Rattle.calls.proofs.Runs.{stateOf, act-sane, start-sane, Imaged}
 use Rattle.calls.proofs.SavesLaws.{found}
@@ -17,7 +18,7 @@ use Rattle.election.specs.inner.Meant.{saidTo, called}
 use Rattle.election.specs.StepOn.{stepOn}
 use Rattle.election.proofs.RunLaws.{not-sized, one-call}
 use Rattle.image_snapshot.specs.Restore.{restoreOn}
-use Rattle.image_snapshot.specs.Save.{saveChecked, saveOn}
+use Rattle.image_snapshot.specs.Save.{saveOn}
 use Rattle.image_snapshot.proofs.RefusedLaws.{restore-kept}
 use Rattle.lent.specs.Check.{checkOn}
 use Rattle.lent.proofs.CheckLaws.{check-sizes}
@@ -27,7 +28,7 @@ use Rattle.protocol.specs.Network.{Network, fresh}
 use Rattle.protocol.specs.Step.{Event}
 use Rattle.protocol.proofs.Holding.{sound-holds}
 use Rattle.protocol.proofs.Restrict.{restrict-is}
-use Rattle.refusal.specs.Outcome.{outcome, Outcome, Answered}
+use Rattle.refusal.specs.Outcome.{outcome, Outcome, Answered, putChecked}
 use Rattle.refusal.specs.Refusal.{why}
 use Rattle.tables.specs.Load.{load, tablesOf}
 use Rattle.tables.specs.Tables.{Tables}
@@ -100,7 +101,7 @@ module _ (n : ℕ) (low : 1 ≤ n) (few : n ≤ 16) (w : RunState Network) (sane
   onto-event m e = ap (λ (o : Outcome Said Tables). steppedTo (onto n w) e o) (event-is m e)
 
   pub save-is : (m : ℕ) (out : List ℕ) → saveOn m (tablesOf n (w .now)) out ≡ saveMeant n m out (w .now)
-  unfolding saveOn saveChecked saveMeant
+  unfolding saveOn putChecked saveMeant
   save-is m out = go (equal? m n)
     where
       passes : checkOn n t ≡ why 0 0 0

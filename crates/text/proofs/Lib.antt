@@ -1,2 +1,4 @@
 -- Laws of text.
 pub mod TextLaws
+pub mod PourLaws
+pub mod FrontLaws

@@ -49,11 +49,11 @@ poured-none at (b ∷ bs) = poured-none (suc at) bs
 
 -- ---- decimal numbers
 -- the digits of a number of one digit, and of more
-digits-one : (k x : ℕ) → x < 10 → digits (suc k) x ≡ (48 + x) ∷ []
+pub digits-one : (k x : ℕ) → x < 10 → digits (suc k) x ≡ (48 + x) ∷ []
 unfolding digits
 digits-one k x h = rw (lt-ltb x 10 h)
 
-digits-more : (k x : ℕ) → 10 ≤ x → digits (suc k) x ≡ digits k (x / 10) ++ ((48 + x % 10) ∷ [])
+pub digits-more : (k x : ℕ) → 10 ≤ x → digits (suc k) x ≡ digits k (x / 10) ++ ((48 + x % 10) ∷ [])
 unfolding digits
 digits-more k x h = rw (le-ltb x 10 h)
 

@@ -7,8 +7,8 @@ use Rattle.commands.specs.Commands.{SaidCommand, commandOf}
 use Rattle.election.specs.StepOn.{stepOn}
 use Rattle.protocol.specs.Answer.{saidRefused}
 use Rattle.tables.specs.Load.{clockAt, heightsAt}
-use Rattle.tables.specs.Rows.{rows}
 use Rattle.tables.specs.Tables.{Tables}
+use Rattle.text.specs.Text.{inTurn}
 use Rattle.bench_run.specs.Listing.{saidLine, byEvent, stationLine}
 
 unfoldable pub commandLineOn : ℕ → Tables → ℕ → SaidCommand → List ℕ
@@ -28,4 +28,4 @@ unfoldable pub stationLineOn : ℕ → Tables → ℕ → List ℕ
 stationLineOn n t u = stationLine u (heightsAt n t u u .pair .lid) (clockAt n t u)
 
 unfoldable pub stationLinesOn : ℕ → Tables → List ℕ
-stationLinesOn n t = rows n (stationLineOn n t)
+stationLinesOn n t = inTurn n (stationLineOn n t)

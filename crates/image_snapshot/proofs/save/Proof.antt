@@ -1,6 +1,8 @@
 -- `image_snapshot::save` meets its contract: refused with 1 or 2 by the check, or the save of checked tables.
 use borrow.Author.Needs.{needs}
-use Rattle.image_snapshot.proofs.SaveLaws.{passes, save-refused, save-sound}
+use Rattle.image_snapshot.specs.Save.{saveOn}
+use Rattle.lent.proofs.PutLaws.{passes, put-sound, put-turned-away}
+use mathlib.Core.Path.{_∙_}
 use Rattle.image_snapshot.proofs.save.Statement.{statement}
 use Rattle.image_snapshot.proofs.save.Tie as tie
 
@@ -20,12 +22,14 @@ same-length : tie.Need-same-length
 same-length c = search needs
 
 returns : tie.Need-returns
+unfolding saveOn
 returns c =
     let m = c .before .before .before .before in
-    rw (save-sound _ _ (m .before .before .check .ensures) _ (m .enum-told .given .1)) at (c .before .before .checked .ensures)
+    c .before .before .checked .ensures ∙ put-sound _ _ (m .before .before .check .ensures) _ _ (m .enum-told .given .1)
 
 returns-2 : tie.Need-returns-2
-returns-2 c = save-refused _ _ (c .before .before .before .check .ensures) _ (c .before .why .given .1)
+unfolding saveOn
+returns-2 c = put-turned-away _ _ (c .before .before .before .check .ensures) _ _ (c .before .why .given .1)
 
 pub save-spec : {M : Type 1} → statement M
 save-spec =

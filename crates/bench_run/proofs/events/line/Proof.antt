@@ -1,6 +1,6 @@
 -- `bench_run::events::line` meets its contract: the event that the line names, on the tables and in the listing.
 use Rattle.bench_run.proofs.LineRuns.{line-up, line-down, line-receive, line-refused, line-done}
-use Rattle.bench_run.proofs.PourLaws.{both}
+use Rattle.text.proofs.PourLaws.{both}
 use borrow.Author.Needs.{needs}
 use Rattle.bench_run.proofs.events.line.Statement.{statement}
 use Rattle.bench_run.proofs.events.line.Tie as tie

@@ -6,7 +6,7 @@ use lib.ListN.{length}
 use borrow.Author.Needs.{needs}
 use Rattle.tables.specs.Tables.{tables}
 use Rattle.bench_run.proofs.LinesRun.{Running, run-start, run-next, run-done, run-length}
-use Rattle.bench_run.proofs.PourLaws.{both}
+use Rattle.text.proofs.PourLaws.{both}
 use Rattle.bench_run.proofs.events.lines.Statement.{statement}
 use Rattle.bench_run.proofs.events.lines.Tie as tie
 

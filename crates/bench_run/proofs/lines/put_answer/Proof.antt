@@ -1,5 +1,6 @@
 -- `bench_run::lines::put_answer` meets its contract: the line of what the answer says.
-use Rattle.bench_run.proofs.PourLaws.{both, finish, said-line, said-le}
+use Rattle.text.proofs.PourLaws.{both, finish}
+use Rattle.bench_run.proofs.PieceLaws.{said-line, said-le}
 use borrow.Author.Needs.{needs}
 use Rattle.bench_run.proofs.lines.put_answer.Statement.{statement}
 use Rattle.bench_run.proofs.lines.put_answer.Tie as tie

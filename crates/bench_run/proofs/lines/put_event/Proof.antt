@@ -1,5 +1,6 @@
 -- `bench_run::lines::put_event` meets its contract: its pieces are poured one behind the other.
-use Rattle.bench_run.proofs.PourLaws.{both, then, finish, event-pieces, event-le}
+use Rattle.text.proofs.PourLaws.{both, then, finish}
+use Rattle.bench_run.proofs.PieceLaws.{event-pieces, event-le}
 use borrow.Author.Needs.{needs}
 use Rattle.bench_run.proofs.lines.put_event.Statement.{statement}
 use Rattle.bench_run.proofs.lines.put_event.Tie as tie

@@ -1,5 +1,5 @@
 -- `bench_run::lines::put_letter` meets its contract: its pieces are poured one behind the other.
-use Rattle.bench_run.proofs.PourLaws.{both, then}
+use Rattle.text.proofs.PourLaws.{both, then}
 use borrow.Author.Needs.{needs}
 use Rattle.bench_run.proofs.lines.put_letter.Statement.{statement}
 use Rattle.bench_run.proofs.lines.put_letter.Tie as tie

@@ -2,7 +2,8 @@
 use native.Mathlib.Omega.{arith}
 use mathlib.Core.Path.{refl}
 use Rattle.text.proofs.TextLaws.{length-decimal-le}
-use Rattle.bench_run.proofs.PourLaws.{both, then, number-le, finish}
+use Rattle.text.proofs.PourLaws.{both, then, finish}
+use Rattle.bench_run.proofs.PieceLaws.{number-le}
 use borrow.Author.Needs.{needs}
 use Rattle.bench_run.proofs.lines.put_number.Statement.{statement}
 use Rattle.bench_run.proofs.lines.put_number.Tie as tie

@@ -1,5 +1,6 @@
 -- `bench_run::lines::put_station` meets its contract: its pieces are poured one behind the other.
-use Rattle.bench_run.proofs.PourLaws.{both, then, finish, station-pieces, station-le}
+use Rattle.text.proofs.PourLaws.{both, then, finish}
+use Rattle.bench_run.proofs.PieceLaws.{station-pieces, station-le}
 use borrow.Author.Needs.{needs}
 use Rattle.bench_run.proofs.lines.put_station.Statement.{statement}
 use Rattle.bench_run.proofs.lines.put_station.Tie as tie

@@ -1,8 +1,9 @@
 -- `bench_run::plot::with_tables` meets its contract: fresh tables, then the four parts of the listing.
 use native.Mathlib.Omega.{arith}
 use mathlib.Core.Path.{_∙_}
-use Rattle.bench_run.proofs.PlotLaws.{made-fresh, plot-done}
-use Rattle.bench_run.proofs.PourLaws.{both}
+use Rattle.lent.proofs.FilledLaws.{made-fresh}
+use Rattle.bench_run.proofs.PlotLaws.{plot-done}
+use Rattle.text.proofs.PourLaws.{both}
 use borrow.Author.Needs.{needs}
 use Rattle.bench_run.proofs.plot.with_tables.Statement.{statement}
 use Rattle.bench_run.proofs.plot.with_tables.Tie as tie

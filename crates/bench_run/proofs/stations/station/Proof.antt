@@ -1,5 +1,5 @@
 -- `bench_run::stations::station` meets its contract: the own height's leader and the clock of its row.
-use Rattle.bench_run.proofs.PourLaws.{both, finish}
+use Rattle.text.proofs.PourLaws.{both, finish}
 use Rattle.bench_run.proofs.StationLaws.{station-line, line-le}
 use borrow.Author.Needs.{needs}
 use Rattle.bench_run.proofs.stations.station.Statement.{statement}

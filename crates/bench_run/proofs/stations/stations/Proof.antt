@@ -8,8 +8,8 @@ use Rattle.protocol.specs.Network.{Node}
 use Rattle.tables.specs.Tables.{tables}
 use Rattle.text.proofs.TextLaws.{length-poured}
 use Rattle.bench_run.specs.inner.OnTables.{stationLineOn, stationLinesOn}
-use Rattle.bench_run.proofs.PourLaws.{both}
-use Rattle.bench_run.proofs.StationLaws.{Printed, printed-none, printed-next, printed-all}
+use Rattle.text.proofs.PourLaws.{both, Printed, printed-none, printed-next, printed-near, printed-all}
+use Rattle.bench_run.proofs.StationLaws.{line-le}
 use Rattle.bench_run.proofs.stations.stations.Statement.{statement}
 use Rattle.bench_run.proofs.stations.stations.Tie as tie
 
@@ -27,7 +27,7 @@ station-requires c κs =
     let l = c .before .before .loop in
     let s = c .before .before .before .before .before in
     let node : Node (s .args .n) (l .u) = record { low = l .inv .low; high = c .before .loop-test .taken } in
-    (s .pre .0, node, s .pre .1, omega (arith, l .inv .near, c .before .loop-test .taken, s .pre .0, s .pre .2))
+    (s .pre .0, node, s .pre .1, omega (arith, printed-near (l .inv) 33 (line-le (s .args .n) (s .args .nodes .now)), c .before .loop-test .taken, s .pre .0, s .pre .2))
 
 add-u : tie.Need-add-u Inv-loop μ-loop
 add-u c = omega arith
@@ -39,7 +39,7 @@ loop-again : tie.Need-loop-again Inv-loop μ-loop
 loop-again c =
     let l = c .before .before .before .before .before .loop in
     let e = c .before .before .station .ensures in
-    printed-next _ _ _ _ _ _ _ _ (l .u) (l .inv) (c .before .before .before .before .loop-test .taken) (both (e .0) (e .1)) (e .2)
+    printed-next _ _ _ _ _ _ _ _ (l .u) (l .inv) (c .before .before .before .before .loop-test .taken) (both (e .0) (e .1))
 
 same-length : tie.Need-same-length Inv-loop μ-loop
 same-length c = ap length (c .before .loop .inv .so-far .bytes) ∙ length-poured _ _ _

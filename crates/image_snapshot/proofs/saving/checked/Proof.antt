@@ -1,7 +1,8 @@
 -- `image_snapshot::saving::checked` meets its contract: 14, or the image of tables that fit.
 use native.Mathlib.Omega.{arith}
 use borrow.Author.Needs.{needs}
-use Rattle.image_snapshot.proofs.SaveLaws.{fits, put-no-room, put-room}
+use Rattle.refusal.proofs.OutcomeLaws.{put-no-room, put-room}
+use Rattle.image_snapshot.proofs.SaveLaws.{fits}
 use Rattle.image_snapshot.proofs.saving.checked.Statement.{statement}
 use Rattle.image_snapshot.proofs.saving.checked.Tie as tie
 

@@ -1,32 +1,14 @@
--- Texts poured one behind the other are one text.
-use Prim.Native.Nat.{ℕ, _+_, _≤_}
-use native.Mathlib.Nat.{add-assoc}
+-- The lines of a listing as pieces, and how long they can be.
+use Prim.Native.Nat.{ℕ, _≤_}
 use native.Mathlib.Omega.{arith}
 use mathlib.Core.List.{List, [], _∷_, _++_, append-assoc}
-use mathlib.Core.Path.{_≡_, sym, ap, _∙_}
+use mathlib.Core.Path.{_≡_, ap, _∙_}
 use lib.ListN.{length, length-append}
 use lib.Count.{ones}
 use Rattle.protocol.specs.Answer.{Said}
 use Rattle.text.specs.Text.{decimal}
-use Rattle.text.specs.inner.Poured.{poured}
-use Rattle.text.proofs.TextLaws.{poured-append, length-decimal-le}
+use Rattle.text.proofs.TextLaws.{length-decimal-le}
 use Rattle.bench_run.specs.Listing.{eventLine, saidLine, stationLine}
-
--- what was poured from an offset on, and the offset behind it
-pub record Poured (out : List ℕ) (at : ℕ) (text after : List ℕ) (behind : ℕ) : Type 0 where
-  pub bytes : after ≡ poured out at text
-  pub offset : behind ≡ at + length text
-
-pub both : {out after : List ℕ} {at behind : ℕ} {text : List ℕ} → after ≡ poured out at text → behind ≡ at + length text → Poured out at text after behind
-both b p = record { bytes = b; offset = p }
-
-pub then : {out mid after : List ℕ} {at between behind : ℕ} {a b : List ℕ} → Poured out at a mid between → Poured mid between b after behind
-    → Poured out at (a ++ b) after behind
-then {out} {mid} {after} {at} {between} {behind} {a} {b} x y = record {
-  bytes =
-      y .bytes ∙ (ap (λ (q : ℕ). poured mid q b) (x .offset) ∙ (ap (λ (o : List ℕ). poured o (at + length a) b) (x .bytes) ∙ sym (poured-append out at a b)));
-  offset = y .offset ∙ (ap (λ (q : ℕ). q + length b) (x .offset) ∙ (add-assoc at (length a) (length b) ∙ ap (λ (q : ℕ). at + q) (sym (length-append a b))));
-}
 
 -- a number and the byte behind it are at most eleven bytes
 pub number-le : (x e : ℕ) → length (decimal x ++ (e ∷ [])) ≤ 11
@@ -81,10 +63,3 @@ said-line k s a b d = rw (a, b, d)
 pub said-le : (k : ℕ) (s : Said) → length (saidLine k s) ≤ 35
 unfolding saidLine
 said-le k s = event-le k (s .why .number) (s .value .rule) (ones (s .value .sentTo))
-
--- a text of at most m bytes, under its own name
-pub finish : {out after : List ℕ} {at behind : ℕ} {text line : List ℕ} → Poured out at text after behind → text ≡ line → (m : ℕ) → length line ≤ m
-    → (after ≡ poured out at line) × (behind ≡ at + length line) × (behind ≤ at + m)
-finish {out} {after} {at} {behind} {text} {line} x e m h =
-    let p : behind ≡ at + length line = x .offset ∙ ap (λ (t : List ℕ). at + length t) e in
-    (x .bytes ∙ ap (poured out at) e, p, omega arith)
