@@ -1,5 +1,6 @@
 -- Bytes as many as `election_image_len` says hold every image: with them no save is refused with 14 (`save-room`).
 -- Assumes tables of 32-bit words that pass the check.
+-- Bytes as many as `election_drawing_len` says hold every drawing: with them none is refused with 14 (`draw-room`). Assumes that the check passes.
 use Prim.Native.Nat.{ℕ, zero, suc, _+_, _-_, _*_, _/_, _≤_, _<_}
 use native.Mathlib.Nat.{mul-assoc, suc-mul}
 use native.Mathlib.Omega.{arith}
@@ -9,6 +10,9 @@ use mathlib.Core.Path.{_≡_, refl, ap, _∙_}
 use borrow.Author.Tests.{le-leb}
 use lib.ListN.{length, length-append}
 use Rattle.basics.proofs.Tests.{equal?}
+use Rattle.drawing.specs.Draw.{drawOn, digitsTo, drawingLength}
+use Rattle.drawing.specs.Drawing.{drawing}
+use Rattle.drawing.proofs.Longest.{drawing-fits}
 use Rattle.image.specs.Image.{image}
 use Rattle.image.specs.Widths.{messageWidth, heightWidth, nodeWidth}
 use Rattle.image_snapshot.specs.Save.{saveOn}
@@ -16,6 +20,7 @@ use Rattle.image_writing.specs.inner.Words.{cellBitsAt, cellsFromBits, cellsBit
 use Rattle.image_writing.proofs.ImageLaws.{depth-16, counts, length-image}
 use Rattle.image_writing.proofs.LengthLaws.{own-none, length-cell, rows-le}
 use Rattle.lent.specs.Check.{checkOn}
+use Rattle.lent.proofs.CheckLaws.{sound-sized}
 use Rattle.lent.proofs.SoundTables.{Words, sound-fits}
 use Rattle.protocol.specs.Network.{Node}
 use Rattle.refusal.specs.Outcome.{putFront, putChecked}
@@ -129,3 +134,18 @@ module _ (n : ℕ) (t : Tables) where
   save-room words sound out room =
       let b : length (image n (load n t)) ≤ length out = omega (arith, room, length-le (sound-fits n t words sound)) in
       rw (sound, le-leb (length (image n (load n t))) (length out) b)
+
+-- ---- room for every drawing
+
+pub longest-drawing : drawingLength 16 ≡ 1409
+unfolding drawingLength digitsTo
+longest-drawing = refl
+
+-- a drawing of tables that pass the check, with room as for the longest one, is accepted
+pub draw-room : (n : ℕ) (t : Tables) → checkOn n t .number ≡ 0 → (out : List ℕ) → drawingLength n ≤ length out
+    → drawOn n t out .said .why .number ≡ 0
+unfolding drawOn putChecked putFront
+draw-room n t sound out room =
+    let size = sound-sized n t sound in
+    let b : length (drawing n (load n t)) ≤ length out = omega (arith, room, drawing-fits n (load n t) (size .low) (size .few)) in
+    rw (sound, le-leb (length (drawing n (load n t))) (length out) b)

@@ -1,4 +1,4 @@
--- The structs of include/election.h, read as what the calls say (crates height, protocol, lent, groups, image_snapshot).
+-- The structs of include/election.h, read as what the calls say (crates height, protocol, lent, groups, image_snapshot, drawing).
 -- Field by field. `sent` of an event's answer is not in what it says: it is the ones of the set. Nor is `collector` of a group's.
 use Prim.Native.Nat.{ℕ}
 use Rattle.groups.specs.declared.Group.{Group}

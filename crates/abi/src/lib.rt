@@ -1,8 +1,10 @@
-// The calls for C and Rust (include/election.h): those of `lent`, `election`, `groups`, `image_snapshot` and the comparison of `height`, with a
-// plain struct as the answer.
+// The calls for C and Rust (include/election.h): those of `lent`, `election`, `groups`, `image_snapshot`, `drawing` and the comparison of
+// `height`, with a plain struct as the answer.
 // Every call takes anything; its contract is the equation of the call that it makes.
 ghost use mathlib.Core.Path.{_≡_};
 ghost use lib.Count.{ones};
+ghost use Rattle.drawing.specs.Draw.{drawOn, drawingLength};
+ghost use Rattle.drawing.specs.Read.{nodesOf, readOn};
 ghost use Rattle.election.specs.StepOn.{stepOn};
 ghost use Rattle.groups.specs.Group.{groupOn};
 ghost use Rattle.groups.specs.Groups.{theOne};
@@ -38,7 +40,7 @@ pub struct AnswerReport {
     pub level_bit: u32,
 }
 
-// What a check, a fresh network or a restore answers: election_checked.
+// What a check, a fresh network, a restore or a sketch read answers: election_checked.
 #[repr(C)]
 pub struct CheckReport {
     pub number: u32,
@@ -46,7 +48,7 @@ pub struct CheckReport {
     pub fault_with: u32,
 }
 
-// What a save answers: election_saved.
+// What a save or a drawing answers: election_saved.
 #[repr(C)]
 pub struct SaveReport {
     pub number: u32,
@@ -161,6 +163,14 @@ pub extern "C" fn election_image_len(n: u32) -> usize
         return (image::HEADER_END + nodes + channels) / 8;
     }
     0
+}
+
+// Bytes that hold every drawing.
+#[no_mangle]
+pub extern "C" fn election_drawing_len(n: u32) -> usize
+    ensures { λ r. ⌜ r ≡ drawingLength n ⌝ }
+{
+    drawing::drawing_length(n)
 }
 
 // ---- tables
@@ -301,6 +311,41 @@ pub extern "C" fn election_read_node(
     ensures { λ r. ⌜ outcome (saidNodeReport r) (now (row .exit)) ≡ readNodeOn (now (image .entry)) k place (now (row .entry)) ⌝ }
 {
     reports::of_node(image_snapshot::read_node(image, k, place, row))
+}
+
+// ---- drawings
+
+// The drawing of the network goes to the front of `out`.
+#[no_mangle]
+pub extern "C" fn election_draw(
+    n: u32,
+    nodes: &[u32],
+    channels: &[u32],
+    out: &mut [u8],
+) -> SaveReport
+    ensures { λ r. ⌜ outcome (saidSaveReport r) (now (out .exit)) ≡ drawOn n (atEntry nodes channels) (now (out .entry)) ⌝ }
+{
+    reports::of_drawn(drawing::draw(n, nodes, channels, out))
+}
+
+// How many nodes a sketch has; 0 where the text is none.
+#[no_mangle]
+pub extern "C" fn election_sketch_stations(text: &[u8]) -> u32
+    ensures { λ r. ⌜ r ≡ nodesOf (now (text .entry)) ⌝ }
+{
+    drawing::nodes_in(text)
+}
+
+// The network of a sketch goes into the tables.
+#[no_mangle]
+pub extern "C" fn election_read_sketch(
+    text: &[u8],
+    nodes: &mut [u32],
+    channels: &mut [u32],
+) -> CheckReport
+    ensures { λ r. ⌜ outcome (saidCheckReport r) (atExit nodes channels) ≡ readOn (now (text .entry)) (atEntry nodes channels) ⌝ }
+{
+    reports::of_check(drawing::read(text, nodes, channels))
 }
 
 // ---- heights

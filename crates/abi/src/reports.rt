@@ -2,6 +2,7 @@
 // Each contract: what the struct says is what the answer says.
 ghost use mathlib.Core.Path.{_≡_};
 ghost use lib.Count.{ones};
+ghost use Rattle.drawing.specs.Draw.{saidDrawn};
 ghost use Rattle.height.specs.Comparison.{saidOrder};
 ghost use Rattle.height.specs.Height.{zeroLevel};
 ghost use Rattle.image_reader.specs.Record.{saidNode, noNode};
@@ -24,6 +25,7 @@ use super::GroupReport;
 use super::NodeReport;
 use super::SaveReport;
 use super::ValueReport;
+use drawing::Drawn;
 use groups::Group;
 use groups::GroupRead;
 use groups::HeadsRead;
@@ -143,7 +145,7 @@ pub fn of_check(answer: Checked) -> CheckReport
     }
 }
 
-// ---- saves
+// ---- saves and drawings
 
 fn saved(w: Why, size: usize) -> SaveReport
     ensures { λ r. ⌜ saidSaveReport r ≡ record { why = w; value = size } ⌝ }
@@ -162,6 +164,15 @@ pub fn of_save(answer: Saved) -> SaveReport
     match answer {
         Saved::Written(size) => saved(accepted(), size),
         Saved::Refused(why) => saved(refusal::said(why), 0),
+    }
+}
+
+pub fn of_drawn(answer: Drawn) -> SaveReport
+    ensures { λ r. ⌜ saidSaveReport r ≡ saidDrawn answer ⌝ }
+{
+    match answer {
+        Drawn::Written(size) => saved(accepted(), size),
+        Drawn::Refused(why) => saved(refusal::said(why), 0),
     }
 }
 
