@@ -55,7 +55,7 @@ fn event(line: &[u8]) -> Option<Event> {
 }
 
 /// 01, 8.5: how numbers are written.
-fn number(piece: &[u8]) -> Option<i64> {
+pub(crate) fn number(piece: &[u8]) -> Option<i64> {
     match *piece {
         [digit @ b'0'..=b'9'] => Some(i64::from(digit - b'0')),
         [tens @ b'1'..=b'9', digit @ b'0'..=b'9'] => {

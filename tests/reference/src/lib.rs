@@ -14,10 +14,15 @@
 //! | [`history`] | Lists of calls (what the events make of the channels) |
 //! | [`quiet`] | Lists of calls (demand 3: groups, collectors and chains) |
 //! | [`bench`] | The bench program |
+//! | [`drawing`] | none: request [2] of document 02 |
+//!
+//! [`sketches`] has texts for the reader of [`drawing`], good and bad, for tests here and elsewhere.
 #![forbid(unsafe_code)]
 
 pub mod bench;
 mod bits;
+mod dice;
+pub mod drawing;
 mod event;
 pub mod history;
 pub mod image;
@@ -25,10 +30,19 @@ pub mod parting;
 pub mod plot;
 pub mod quiet;
 pub mod refusal;
+mod sketch;
+mod sketch_corners;
+pub mod sketches;
 mod sound;
 pub mod step;
 pub mod tables;
 
+#[cfg(test)]
+mod worked_arrows;
+#[cfg(test)]
+mod worked_drawings;
+#[cfg(test)]
+mod worked_forms;
 #[cfg(test)]
 mod worked_groups;
 #[cfg(test)]
@@ -41,3 +55,7 @@ mod worked_lists;
 mod worked_orders;
 #[cfg(test)]
 mod worked_plots;
+#[cfg(test)]
+mod worked_rooms;
+#[cfg(test)]
+mod worked_sketches;

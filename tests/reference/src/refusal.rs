@@ -1,7 +1,7 @@
-//! Document 01, "Returned numbers": the fifteen refusals.
+//! Document 01, "Returned numbers": the fifteen refusals; and those of request [2] of document 02.
 
-/// The rows of the table, in its order (01, 5.3 to 5.17). After each of them nothing lent has changed
-/// (5.2).
+/// The rows of the table, in its order (01, 5.3 to 5.17), then 16 and 17 (02, [2]). After each of them
+/// nothing lent has changed (5.2).
 #[derive(Clone, Copy, Debug, PartialEq, Eq)]
 pub enum Refusal {
     /// 1: n, or the length of a lent table (01, 5.3)
@@ -34,6 +34,10 @@ pub enum Refusal {
     Room,
     /// 15: a line of the bench (01, 5.17)
     BenchLine,
+    /// 16: a text that is no sketch (02, [2])
+    SketchForm,
+    /// 17: a link that a sketch must not name (02, [2])
+    SketchLink,
 }
 
 impl Refusal {
@@ -55,6 +59,8 @@ impl Refusal {
             Refusal::Place => 13,
             Refusal::Room => 14,
             Refusal::BenchLine => 15,
+            Refusal::SketchForm => 16,
+            Refusal::SketchLink => 17,
         }
     }
 

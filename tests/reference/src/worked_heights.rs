@@ -65,7 +65,7 @@ fn written(text: &str) -> Height {
 }
 
 /// The lines of the table: the heights, their order and the place.
-fn worked() -> Vec<(Height, Height, Ordering, i64)> {
+pub(crate) fn worked() -> Vec<(Height, Height, Ordering, i64)> {
     let lines = WORKED.lines().filter(|line| !line.trim().is_empty());
     lines
         .map(|line| {

@@ -1,6 +1,7 @@
 //! Document 01, "Lists of calls", with demand 3's claim of quiet plots; and tests of some readings
 //! of "The three events" (READINGS.md).
 
+use crate::dice::Dice;
 use crate::history::History;
 use crate::image::{longest, resume, save};
 use crate::plot::Plot;
@@ -9,20 +10,6 @@ use crate::step::{Rule, is_sink, step};
 use crate::tables::{channels_len, nodes_len, store};
 use crate::worked_plots::{down, form, heard, hold, link, send, stands, takes, up};
 use std::collections::BTreeSet;
-
-/// A small source of numbers for lists of calls.
-struct Dice(u64);
-
-impl Dice {
-    /// A number from 0 to below `end`.
-    fn below(&mut self, end: i64) -> i64 {
-        self.0 = self
-            .0
-            .wrapping_mul(6364136223846793005)
-            .wrapping_add(1442695040888963407);
-        ((self.0 >> 33) as i64) % end
-    }
-}
 
 /// Makes both channels between any two stations alike and lets every message be heard.
 fn calm(plot: &mut Plot, history: &mut History) {

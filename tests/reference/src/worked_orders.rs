@@ -56,7 +56,7 @@ fn places(u: usize, v: usize) -> (usize, usize, usize) {
 }
 
 #[test]
-fn numbers_1_to_15_are_in_order() {
+fn numbers_1_to_17_are_in_order() {
     let all = [
         Refusal::Sizes,
         Refusal::Fault { u: 4, v: 5 },
@@ -73,9 +73,11 @@ fn numbers_1_to_15_are_in_order() {
         Refusal::Place,
         Refusal::Room,
         Refusal::BenchLine,
+        Refusal::SketchForm,
+        Refusal::SketchLink,
     ];
     let numbers: Vec<i64> = all.into_iter().map(Refusal::number).collect();
-    assert_eq!(numbers, (1..=15).collect::<Vec<i64>>());
+    assert_eq!(numbers, (1..=17).collect::<Vec<i64>>());
     assert_eq!(all[1].pair(), Some((4, 5)));
 }
 
