@@ -20,6 +20,13 @@
  *
  * THE IMAGE of a plot is bytes, each number with its most significant bit first: the same on every machine.
  *
+ * DRAWINGS AND SKETCHES are texts in the DOT language of Graphviz; every line ends with the byte 10, the last too.
+ * A drawing is written: `digraph plot {`, a line `  k;` for each station, ascending, a line `  a -> b;` for each link, as it leads, by a and
+ *   then by b, `}`. What waits on channels, and channels that are up one way, do not show.
+ * A sketch is read: `graph plot {`, a line `  k;` for each station from 1 to n, any number of lines `  a -- b;`, `}`, and nothing else: each
+ *   blank as here, no comment, no other name. Numbers are 0 to 99 without a leading zero. It stands for the fresh plot, and then, line by
+ *   line, up at a and up at b.
+ *
  * WHOSE TABLES. They hold a whole plot, as a bench or a gateway keeps it. A logger knows itself and its radio, and that is enough: an
  * event at u depends on row u, the cells from u and, for a receipt, the message received; of all else only that the check passes.
  * Logger u keeps tables of its own (examples/devices.c; what of this is proved, own-view, is in docs/FIRMWARE.md):
@@ -34,7 +41,7 @@
  * THREADS. No static data, no allocation, no lock. Calls on different memory may run at once; calls that share memory may if none
  * writes it (const marks what is only read).
  *
- * SIZE (x86-64, docs/FIRMWARE.md): 27 KB of code; ELECTION_STACK_MAX bytes of stack at most; tables and image as lent. Of the
+ * SIZE (x86-64, docs/FIRMWARE.md): 31 KB of code; ELECTION_STACK_MAX bytes of stack at most; tables and image as lent. Of the
  * C library it needs memmove and memset. The archive is for x86-64 only: docs/FIRMWARE.md says what to do on another processor.
  *
  * WHAT PASSES THE CHECK (else 2). The sets of u share no station and hold neither u nor a bit above n. A height has an originator up to n
@@ -48,11 +55,13 @@
  *   check, quiet, groups           1, 2
  *   group_of                       1, 2, 3
  *   up, down, receive              1, 2, 3; 4 for up, 5 for down, 6 for receive; 7, 8, 9
- *   save                           1, 2, 14
+ *   save, draw                     1, 2, 14
  *   image_stations                 10, 11
  *   restore, read_node             10, 11, 1, then the walk over the records: a count above 8 is 2 with its pair and an early end is
  *                                  12, whichever comes first; then bytes or bits left over, 12; then contents, 2;
  *                                  and for read_node at last 3, 13
+ *   sketch_stations                none: it takes any text
+ *   read_sketch                    16 by the whole text, 1 by its n, 17
  * The pair of 2 is the first at fault, u ascending, then v. The pair u u covers both sets, the own height and the unused cell u to u
  * (a clock may be any word); the pair u v covers the view of v in row u and the channel u to v.
  */
@@ -70,7 +79,7 @@ extern "C" {
  * call, a number, a letter: take a number that you do not know as a refusal), PATCH with words only. The archive has no number of its
  * own: take both from one bin/install. */
 #define ELECTION_VERSION_MAJOR 1
-#define ELECTION_VERSION_MINOR 1
+#define ELECTION_VERSION_MINOR 2
 #define ELECTION_VERSION_PATCH 0
 #define ELECTION_VERSION (ELECTION_VERSION_MAJOR * 1000000 + ELECTION_VERSION_MINOR * 1000 + ELECTION_VERSION_PATCH)
 
@@ -87,6 +96,8 @@ extern "C" {
 #define ELECTION_ROW_LEN(n) ELECTION_IF_SIZE_(n, (size_t)(n) * ELECTION_HEIGHT_LEN)
 #define ELECTION_IMAGE_MAX(n) \
     ELECTION_IF_SIZE_(n, (32 + (size_t)(n) * (64 + 96 * (size_t)(n)) + (size_t)(n) * ((size_t)(n) - 1) * (4 + ELECTION_CAPACITY * 128)) / 8)
+#define ELECTION_DRAWING_MAX(n) \
+    ELECTION_IF_SIZE_(n, 17 + (size_t)(n) * (4 * (size_t)(n) + ((size_t)(n) < 10 ? (size_t)(n) : 2 * (size_t)(n) - 9)))
 #define ELECTION_IF_SIZE_(n, len) ((size_t)(n) >= 1 && (size_t)(n) <= ELECTION_MAX_STATIONS ? (len) : (size_t)0)
 
 /* Words of a height, a message, a cell, and a row of nodes. */
@@ -130,7 +141,10 @@ enum {
     ELECTION_IMAGE_HEADER = 11,  /* version, header length, station count or spare bits */
     ELECTION_IMAGE_END = 12,     /* image cut off, or longer than its plot, or a pad bit set */
     ELECTION_PLACE = 13,         /* the station's record does not start at the place that was saved */
-    ELECTION_ROOM = 14           /* output room too small */
+    ELECTION_ROOM = 14,          /* output room too small */
+                                 /* 15 is the bench's alone */
+    ELECTION_SKETCH_FORM = 16,   /* the text is no sketch, or one of more than 16 stations */
+    ELECTION_SKETCH_LINK = 17    /* a sketch links to 0, above n, a station to itself, or two stations twice, in either order */
 };
 
 /* A line for a returned number, and one for any other. */
@@ -150,7 +164,9 @@ static inline const char *election_strerror(uint32_t number) {
     case ELECTION_IMAGE_HEADER: return "the image's header is wrong";
     case ELECTION_IMAGE_END: return "the image ends too early or too late, or its last bits are not 0";
     case ELECTION_PLACE: return "the station's record does not start at that place";
-    case ELECTION_ROOM: return "the room for the image is too small";
+    case ELECTION_ROOM: return "the room for the image or the drawing is too small";
+    case ELECTION_SKETCH_FORM: return "the text is no sketch of 1 to 16 stations";
+    case ELECTION_SKETCH_LINK: return "the sketch has a link to no station, to itself, or named twice";
     default: return "no number of this interface";
     }
 }
@@ -217,17 +233,17 @@ typedef struct {
     uint32_t level_tau, level_originator, level_bit;   /* for rule P the level taken (search time first), else 0 */
 } election_answer;
 
-/* What a check, a fresh plot or a resume answers. */
+/* What a check, a fresh plot, a resume or a sketch read answers. */
 typedef struct {
     uint32_t number;
     uint32_t fault_at, fault_with;                     /* for 2 the pair, else 0 */
 } election_checked;
 
-/* What a save answers. */
+/* What a save or a drawing answers. */
 typedef struct {
     uint32_t number;
     uint32_t fault_at, fault_with;                     /* for 2 the pair, else 0 */
-    uint64_t size;                                     /* the image's length in bytes */
+    uint64_t size;                                     /* the image's, or the drawing's, length in bytes */
 } election_saved;
 
 /* What a look at one station answers. */
@@ -265,6 +281,7 @@ size_t election_nodes_len(uint32_t n);     /* n (3 + 7 n) words */
 size_t election_channels_len(uint32_t n);  /* 65 n n words */
 size_t election_row_len(uint32_t n);       /* 7 n words */
 size_t election_image_len(uint32_t n);     /* bytes that hold every image of n stations; 34,044 for 16 */
+size_t election_drawing_len(uint32_t n);   /* bytes that hold every drawing of n stations; 1,409 for 16 */
 
 /* ---- calls: tables */
 
@@ -309,6 +326,17 @@ election_checked election_restore(const uint8_t *image, size_t image_len, uint32
 
 /* Looks at station k, whose record is said to start at the bit `place` (election_place); its n heights go into row. */
 election_station election_read_node(const uint8_t *image, size_t image_len, uint32_t k, uint64_t place, uint32_t *row, size_t row_len);
+
+/* ---- calls: drawings and sketches */
+
+/* The drawing of the plot goes to the front of out; the bytes behind it stay. No byte 0 ends it: size is its length. */
+election_saved election_draw(uint32_t n, const uint32_t *nodes, size_t nodes_len, const uint32_t *channels, size_t channels_len, uint8_t *out, size_t out_len);
+
+/* How many stations a sketch has, whatever its links are; 0 for a text that is no sketch. */
+uint32_t election_sketch_stations(const uint8_t *text, size_t text_len);
+
+/* The plot of a sketch goes into tables of the sketch's n, whatever they held. */
+election_checked election_read_sketch(const uint8_t *text, size_t text_len, uint32_t *nodes, size_t nodes_len, uint32_t *channels, size_t channels_len);
 
 /* ---- calls: heights */
 

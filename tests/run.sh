@@ -111,7 +111,7 @@ step "bin/: arguments, files, links, devices, proving and progress (tests/comman
 grep '^tests: NOT RUN' "$log/step" || true
 step "the archive for C and Rust (bin/install)" bin/install "$log/installed"
 if gcc --version >"$log/step" 2>&1 && g++ --version >"$log/step" 2>&1; then
-    programs="examples/logger examples/six examples/devices tests/c/header tests/c/groups tests/c/heights tests/c/links"
+    programs="examples/logger examples/six examples/devices tests/c/header tests/c/groups tests/c/heights tests/c/links tests/c/drawing"
     for program in $programs; do
         step "$program.c compiles without a warning, as C and as C++" compiles "$program"
     done
@@ -126,6 +126,8 @@ if gcc --version >"$log/step" 2>&1 && g++ --version >"$log/step" 2>&1; then
     step "quiet, groups and collectors beside the same worked out another way (tests/c/groups.c)" "$log/groups"
     step "heights compared, on the table of height_cases and beside the same worked out another way (tests/c/heights.c)" "$log/heights"
     step "heights compared: the same as C++" "$log/heights.cpp"
+    step "drawings and sketches, by hand and beside the same worked out another way (tests/c/drawing.c)" "$log/drawing"
+    step "drawings and sketches: the same as C++" "$log/drawing.cpp"
     step "bin/image shows what decides each link of a planted plot (tests/c/links.c)" links_shown
     step "tests/c/stack.c compiles without a warning" compiles tests/c/stack -pthread -Wl,-z,now
     step "no call takes more stack than include/election.h says (tests/c/stack.c)" "$log/stack"

@@ -41,6 +41,10 @@ pub enum Refusal {
     Place,
     /// 14: output room too small.
     Room,
+    /// 16: a text that is no sketch, or one of more than 16 stations.
+    SketchForm,
+    /// 17: a sketch links to 0, above n, a station to itself, or two stations twice, in either order.
+    SketchLink,
     /// A number that this crate does not know, from a newer library.
     Other(u32),
 }
@@ -63,6 +67,8 @@ impl Refusal {
             Refusal::ImageEnd => 12,
             Refusal::Place => 13,
             Refusal::Room => 14,
+            Refusal::SketchForm => 16,
+            Refusal::SketchLink => 17,
             Refusal::Other(number) => number,
         }
     }
@@ -85,6 +91,8 @@ impl Refusal {
             12 => Refusal::ImageEnd,
             13 => Refusal::Place,
             14 => Refusal::Room,
+            16 => Refusal::SketchForm,
+            17 => Refusal::SketchLink,
             other => Refusal::Other(other),
         })
     }
@@ -107,6 +115,8 @@ impl fmt::Display for Refusal {
             Refusal::ImageEnd => "the image's end is wrong",
             Refusal::Place => "the station's record is elsewhere",
             Refusal::Room => "the room is too small",
+            Refusal::SketchForm => "the text is no sketch of 1 to 16 stations",
+            Refusal::SketchLink => "the sketch has a link to no station, to itself, or named twice",
             Refusal::Other(_) => "a number that this crate does not know",
         };
         write!(f, "{}: {why}", self.number())
@@ -411,9 +421,11 @@ mod tests {
     /// A newer library may answer a number or a letter that is not known here.
     #[test]
     fn unknown_numbers_and_letters() {
-        let newer = ffi::Answer { number: 15, ..DONE };
-        assert_eq!(Step::of(newer), Err(Refusal::Other(15)));
-        assert_eq!(Refusal::Other(15).number(), 15);
+        for number in [15, 18, u32::MAX] {
+            let newer = ffi::Answer { number, ..DONE };
+            assert_eq!(Step::of(newer), Err(Refusal::Other(number)));
+            assert_eq!(Refusal::Other(number).number(), number);
+        }
         for (rule, letter) in [('Z' as u32, 'Z'), (0xd800, '\u{fffd}')] {
             let step = Step::of(ffi::Answer { rule, ..DONE }).unwrap();
             assert_eq!(
@@ -446,7 +458,10 @@ mod tests {
     fn every_number_is_itself() {
         assert_eq!(Refusal::check(0, 0, 0), Ok(()));
         for number in 1..=20 {
-            assert_eq!(Refusal::check(number, 1, 2).unwrap_err().number(), number);
+            let refusal = Refusal::check(number, 1, 2).unwrap_err();
+            assert_eq!(refusal.number(), number);
+            let known = (1..=17).contains(&number) && number != 15;
+            assert_eq!(refusal != Refusal::Other(number), known);
         }
     }
 }

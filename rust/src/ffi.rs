@@ -20,7 +20,7 @@ pub struct Answer {
     pub level_bit: u32,
 }
 
-/// What a check, a fresh plot or a resume answers.
+/// What a check, a fresh plot, a resume or a sketch read answers.
 #[repr(C)]
 #[derive(Clone, Copy, Debug, PartialEq, Eq)]
 pub struct Checked {
@@ -29,7 +29,7 @@ pub struct Checked {
     pub fault_with: u32,
 }
 
-/// What a save answers.
+/// What a save or a drawing answers.
 #[repr(C)]
 #[derive(Clone, Copy, Debug, PartialEq, Eq)]
 pub struct Saved {
@@ -102,6 +102,7 @@ unsafe extern "C" {
     safe fn election_channels_len(n: u32) -> usize;
     safe fn election_row_len(n: u32) -> usize;
     safe fn election_image_len(n: u32) -> usize;
+    safe fn election_drawing_len(n: u32) -> usize;
     safe fn election_compare(a: Height, b: Height) -> Comparison;
     fn election_fresh(
         n: u32,
@@ -153,6 +154,24 @@ unsafe extern "C" {
         out: *mut u8,
         out_len: usize,
     ) -> Saved;
+    fn election_draw(
+        n: u32,
+        nodes: *const u32,
+        nodes_len: usize,
+        channels: *const u32,
+        channels_len: usize,
+        out: *mut u8,
+        out_len: usize,
+    ) -> Saved;
+    fn election_sketch_stations(text: *const u8, text_len: usize) -> u32;
+    fn election_read_sketch(
+        text: *const u8,
+        text_len: usize,
+        nodes: *mut u32,
+        nodes_len: usize,
+        channels: *mut u32,
+        channels_len: usize,
+    ) -> Checked;
     fn election_restore(
         image: *const u8,
         image_len: usize,
@@ -216,6 +235,11 @@ pub fn image_len(n: u32) -> usize {
     election_image_len(n)
 }
 
+/// The bytes that hold every drawing.
+pub fn drawing_len(n: u32) -> usize {
+    election_drawing_len(n)
+}
+
 /// Which height is the larger, and where they part.
 pub fn compare(a: Height, b: Height) -> Comparison {
     election_compare(a, b)
@@ -262,6 +286,23 @@ fn event(f: Event, n: u32, u: u32, v: u32, nodes: &mut [u32], channels: &mut [u3
 pub fn save(n: u32, nodes: &[u32], channels: &[u32], out: &mut [u8]) -> Saved {
     let (a, b, room) = (nodes.as_ptr(), channels.as_ptr(), out.len());
     unsafe { election_save(n, a, nodes.len(), b, channels.len(), out.as_mut_ptr(), room) }
+}
+
+/// The drawing goes to the front of `out`.
+pub fn draw(n: u32, nodes: &[u32], channels: &[u32], out: &mut [u8]) -> Saved {
+    let (a, b, room) = (nodes.as_ptr(), channels.as_ptr(), out.len());
+    unsafe { election_draw(n, a, nodes.len(), b, channels.len(), out.as_mut_ptr(), room) }
+}
+
+/// The number of stations of a sketch; 0 for a text that is none.
+pub fn sketch_stations(text: &[u8]) -> u32 {
+    unsafe { election_sketch_stations(text.as_ptr(), text.len()) }
+}
+
+/// The plot of a sketch.
+pub fn read_sketch(text: &[u8], nodes: &mut [u32], channels: &mut [u32]) -> Checked {
+    let (a, b, len) = (nodes.as_mut_ptr(), channels.as_mut_ptr(), text.len());
+    unsafe { election_read_sketch(text.as_ptr(), len, a, nodes.len(), b, channels.len()) }
 }
 
 /// Resumes the plot of an image.

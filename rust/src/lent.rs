@@ -61,6 +61,16 @@ pub const fn image_len(n: u32) -> usize {
     (32 + k * (64 + 96 * k) + k * (k - 1) * (4 + CAPACITY as usize * message)) / 8
 }
 
+/// Bytes that hold every drawing of n stations, 1,409 for 16; 0 for n outside 1 to 16.
+pub const fn drawing_len(n: u32) -> usize {
+    let k = size(n);
+    if k == 0 {
+        return 0;
+    }
+    let digits = if k < 10 { k } else { 2 * k - 9 };
+    17 + k * (4 * k + digits)
+}
+
 /// The bit at which station k's record starts in an image of n stations; `None` for n outside 1 to 16 and k outside 1 to n.
 pub const fn place(n: u32, k: u32) -> Option<u64> {
     if n > MAX_STATIONS || k < 1 || k > n {
@@ -71,6 +81,11 @@ pub const fn place(n: u32, k: u32) -> Option<u64> {
 
 fn checked(c: ffi::Checked) -> Result<(), Refusal> {
     Refusal::check(c.number, c.fault_at, c.fault_with)
+}
+
+fn saved(s: ffi::Saved) -> Result<usize, Refusal> {
+    Refusal::check(s.number, s.fault_at, s.fault_with)?;
+    Ok(s.size as usize)
 }
 
 fn value(v: ffi::Value) -> Result<u32, Refusal> {
@@ -177,9 +192,7 @@ pub fn group_of(n: u32, u: u32, nodes: &[u32], channels: &[u32]) -> Result<Group
 ///
 /// The first of [`Refusal::Sizes`], [`Refusal::Fault`], [`Refusal::Room`].
 pub fn save(n: u32, nodes: &[u32], channels: &[u32], out: &mut [u8]) -> Result<usize, Refusal> {
-    let s = ffi::save(n, nodes, channels, out);
-    Refusal::check(s.number, s.fault_at, s.fault_with)?;
-    Ok(s.size as usize)
+    saved(ffi::save(n, nodes, channels, out))
 }
 
 /// The number of stations in an image's header. The rest of the image is not looked at.
@@ -223,6 +236,47 @@ pub fn read_station<'r>(
     Station::new(k, record, row).ok_or(Refusal::Station)
 }
 
+/// The drawing of the plot goes to the front of `out`, and its length in bytes is answered; the bytes behind it stay. It is a text in the
+/// DOT language of Graphviz: every station, and every link as it leads, from the larger own height to the smaller.
+///
+/// # Errors
+///
+/// The first of [`Refusal::Sizes`], [`Refusal::Fault`], [`Refusal::Room`]; with room of [`drawing_len`] never the last.
+pub fn draw(n: u32, nodes: &[u32], channels: &[u32], out: &mut [u8]) -> Result<usize, Refusal> {
+    saved(ffi::draw(n, nodes, channels, out))
+}
+
+/// How many stations a sketch has, whatever its links are; `None` for a text that is no sketch.
+pub fn sketch_stations(text: &[u8]) -> Option<u32> {
+    Some(ffi::sketch_stations(text)).filter(|&n| n != 0)
+}
+
+/// The plot of a sketch goes into tables of the sketch's n, whatever they held: the fresh plot, and then both channels of each link up, line
+/// by line.
+///
+/// ```
+/// use plot_election::{lent, Refusal, View};
+///
+/// let sketch = b"graph plot {\n  1;\n  2;\n  2 -- 1;\n}\n";
+/// assert_eq!(lent::sketch_stations(sketch), Some(2));
+/// let mut nodes = [0; lent::nodes_len(2)];
+/// let mut channels = [0; lent::channels_len(2)];
+/// lent::read_sketch(sketch, &mut nodes, &mut channels)?;
+/// assert!(View::new(2, &nodes, &channels)?.is_linked(1, 2));
+///
+/// let mut out = [0; lent::drawing_len(2)];
+/// let size = lent::draw(2, &nodes, &channels, &mut out)?;
+/// assert_eq!(&out[..size], b"digraph plot {\n  1;\n  2;\n  2 -> 1;\n}\n");
+/// # Ok::<(), Refusal>(())
+/// ```
+///
+/// # Errors
+///
+/// The first of [`Refusal::SketchForm`], by the whole text, [`Refusal::Sizes`], by its n, and [`Refusal::SketchLink`].
+pub fn read_sketch(text: &[u8], nodes: &mut [u32], channels: &mut [u32]) -> Result<(), Refusal> {
+    checked(ffi::read_sketch(text, nodes, channels))
+}
+
 #[cfg(test)]
 mod tests {
     use super::*;
@@ -235,6 +289,7 @@ mod tests {
             assert_eq!(channels_len(n), ffi::channels_len(n), "{n}");
             assert_eq!(row_len(n), ffi::row_len(n), "{n}");
             assert_eq!(image_len(n), ffi::image_len(n), "{n}");
+            assert_eq!(drawing_len(n), ffi::drawing_len(n), "{n}");
         }
     }
 }

@@ -3,6 +3,7 @@
 use crate::answers::{Group, Refusal, Stations, Step};
 use crate::lent;
 use crate::view::{SavedStation, Station, View};
+use std::string::String;
 use std::vec;
 use std::vec::Vec;
 
@@ -66,6 +67,27 @@ impl Plot {
         Ok(plot)
     }
 
+    /// The plot of a sketch, with as many stations as it has. See [`lent::read_sketch`].
+    ///
+    /// ```
+    /// use plot_election::{Plot, Refusal};
+    ///
+    /// let plot = Plot::from_sketch(b"graph plot {\n  1;\n  2;\n  3;\n  1 -- 3;\n}\n")?;
+    /// assert!(plot.view().is_linked(3, 1) && plot.waiting(1, 3) == 1);
+    /// assert_eq!(plot.draw()?, "digraph plot {\n  1;\n  2;\n  3;\n  3 -> 1;\n}\n");
+    /// # Ok::<(), Refusal>(())
+    /// ```
+    ///
+    /// # Errors
+    ///
+    /// [`Refusal::SketchForm`], then [`Refusal::SketchLink`].
+    pub fn from_sketch(text: &[u8]) -> Result<Plot, Refusal> {
+        let n = lent::sketch_stations(text).ok_or(Refusal::SketchForm)?;
+        let mut plot = Plot::zeros(n);
+        plot.read_sketch(text)?;
+        Ok(plot)
+    }
+
     /// The number of stations.
     pub fn size(&self) -> u32 {
         self.n
@@ -117,6 +139,26 @@ impl Plot {
     /// Those of [`lent::restore`]; [`Refusal::Sizes`] for an image of another number of stations.
     pub fn restore(&mut self, image: &[u8]) -> Result<(), Refusal> {
         lent::restore(image, &mut self.nodes, &mut self.channels)
+    }
+
+    /// The drawing of the plot, a text in the DOT language of Graphviz. See [`lent::draw`].
+    ///
+    /// # Errors
+    ///
+    /// None: the tables of a `Plot` are sound, and the room is made for them. A newer library may know one.
+    pub fn draw(&self) -> Result<String, Refusal> {
+        let mut out = vec![0; lent::drawing_len(self.n)];
+        let size = lent::draw(self.n, &self.nodes, &self.channels, &mut out)?;
+        Ok(out[..size].iter().copied().map(char::from).collect())
+    }
+
+    /// The plot becomes that of a sketch of n stations; for any other see [`Plot::from_sketch`].
+    ///
+    /// # Errors
+    ///
+    /// Those of [`lent::read_sketch`]; [`Refusal::Sizes`] for a sketch of another number of stations.
+    pub fn read_sketch(&mut self, text: &[u8]) -> Result<(), Refusal> {
+        lent::read_sketch(text, &mut self.nodes, &mut self.channels)
     }
 
     /// Looks at station k of an image of n stations, whose record is said to start at the bit `place`. The plot stays as it is.

@@ -91,6 +91,7 @@ static void sizes(void) {
         CHECK(ELECTION_CHANNELS_LEN(n) == election_channels_len(n) && ELECTION_CHANNELS_LEN(n) == 65 * n * n);
         CHECK(ELECTION_ROW_LEN(n) == election_row_len(n) && ELECTION_ROW_LEN(n) == 7 * n);
         CHECK(ELECTION_IMAGE_MAX(n) == election_image_len(n) && ELECTION_IMAGE_MAX(n) > 0);
+        CHECK(ELECTION_DRAWING_MAX(n) == election_drawing_len(n) && ELECTION_DRAWING_MAX(n) > 17 + 4 * n * n);
         CHECK(ELECTION_NODES_LEN(n) == n * ELECTION_STATION_LEN(n));
     }
     for (size_t i = 0; i < sizeof others / sizeof others[0]; i++) {
@@ -98,19 +99,24 @@ static void sizes(void) {
         CHECK(ELECTION_CHANNELS_LEN(others[i]) == 0 && election_channels_len(others[i]) == 0);
         CHECK(ELECTION_ROW_LEN(others[i]) == 0 && election_row_len(others[i]) == 0);
         CHECK(ELECTION_IMAGE_MAX(others[i]) == 0 && election_image_len(others[i]) == 0);
+        CHECK(ELECTION_DRAWING_MAX(others[i]) == 0 && election_drawing_len(others[i]) == 0);
     }
     CHECK(sizeof image == 34044 && ELECTION_CELL_LEN == 65 && ELECTION_MESSAGE_LEN == 8);
+    CHECK(ELECTION_DRAWING_MAX(1) == 22 && ELECTION_DRAWING_MAX(9) == 422 && ELECTION_DRAWING_MAX(10) == 527 && ELECTION_DRAWING_MAX(16) == 1409);
     CHECK(ELECTION_VERSION == ELECTION_VERSION_MAJOR * 1000000 + ELECTION_VERSION_MINOR * 1000 + ELECTION_VERSION_PATCH);
 }
 
 static void lines(void) {
     const char *other = election_strerror(0xffffffffu);
-    for (uint32_t a = ELECTION_DONE; a <= ELECTION_ROOM; a++) {
+    for (uint32_t a = ELECTION_DONE; a <= ELECTION_SKETCH_LINK; a++) {
+        if (a == 15) /* the bench's */
+            continue;
         CHECK(strlen(election_strerror(a)) > 10 && strcmp(election_strerror(a), other) != 0);
         for (uint32_t b = ELECTION_DONE; b < a; b++)
             CHECK(strcmp(election_strerror(a), election_strerror(b)) != 0);
     }
-    CHECK(strcmp(election_strerror(ELECTION_ROOM + 1), other) == 0);
+    CHECK(strcmp(election_strerror(15), other) == 0 && strcmp(election_strerror(ELECTION_SKETCH_LINK + 1), other) == 0);
+    CHECK(ELECTION_ROOM == 14 && ELECTION_SKETCH_FORM == 16 && ELECTION_SKETCH_LINK == 17);
 }
 
 /* ---- the inline functions */

@@ -9,20 +9,21 @@
 
 #include "election.h"
 
-enum { N = ELECTION_MAX_STATIONS, PAINTED = 64 * 1024, MARGIN = 4096, CALLS = 17 };
+enum { N = ELECTION_MAX_STATIONS, PAINTED = 64 * 1024, MARGIN = 4096, CALLS = 20 };
 enum { NODES = ELECTION_NODES_LEN(N), CHANNELS = ELECTION_CHANNELS_LEN(N), ROW = ELECTION_ROW_LEN(N), IMAGE = ELECTION_IMAGE_MAX(N) };
+enum { DRAWING = ELECTION_DRAWING_MAX(N) };
 static const uint64_t PAINT = 0xa5a5a5a5a5a5a5a5u;
 
 static uint32_t nodes[NODES], channels[CHANNELS], row[ROW];
 static uint32_t spare_nodes[NODES], spare_channels[CHANNELS];
-static uint8_t image[IMAGE], out[IMAGE];
-static size_t image_len;
+static uint8_t image[IMAGE], out[IMAGE], drawing[DRAWING], sketch[DRAWING];
+static size_t image_len, sketch_len;
 static volatile uint64_t seen;
 
 /* ---- the calls */
 
 static void nothing(void) { seen = 0; }
-static void lengths(void) { seen = election_nodes_len(N) + election_channels_len(N) + election_row_len(N) + election_image_len(N); }
+static void lengths(void) { seen = election_nodes_len(N) + election_channels_len(N) + election_row_len(N) + election_image_len(N) + election_drawing_len(N); }
 static void check(void) { seen = election_check(N, nodes, NODES, channels, CHANNELS).number; }
 static void up(void) { seen = election_up(N, 1, 2, nodes, NODES, channels, CHANNELS).number; }
 static void down(void) { seen = election_down(N, 1, 2, nodes, NODES, channels, CHANNELS).number; }
@@ -37,6 +38,9 @@ static void groups(void) { seen = election_groups(N, nodes, NODES, channels, CHA
 static void group_of(void) { seen = election_group_of(N, N, nodes, NODES, channels, CHANNELS).number; }
 static void image_stations(void) { seen = election_image_stations(image, image_len).number; }
 static void compare(void) { seen = election_compare(election_height_at(N, 1, 1, nodes), election_height_at(N, N, 1, nodes)).place; }
+static void draw(void) { seen = election_draw(N, nodes, NODES, channels, CHANNELS, drawing, DRAWING).number; }
+static void sketch_stations(void) { seen = election_sketch_stations(sketch, sketch_len); }
+static void read_sketch(void) { seen = election_read_sketch(sketch, sketch_len, spare_nodes, NODES, spare_channels, CHANNELS).number; }
 static void fresh(void) { seen = election_fresh(N, spare_nodes, NODES, spare_channels, CHANNELS).number; }
 
 static const struct {
@@ -46,7 +50,7 @@ static const struct {
                   {"up", up},           {"receive", receive}, {"receive", receive_last}, {"quiet", quiet},
                   {"groups", groups},   {"group_of", group_of}, {"save", save},          {"image_stations", image_stations},
                   {"restore", restore}, {"read_node", read_node}, {"down", down_last},   {"up", up},
-                  {"compare", compare}};
+                  {"compare", compare}, {"draw", draw},       {"sketch_stations", sketch_stations}, {"read_sketch", read_sketch}};
 
 /* ---- the painted stack */
 
@@ -90,6 +94,18 @@ static void fill(uint32_t waiting) {
     }
 }
 
+/* The drawing of the plot, made a sketch of the same links: graph for digraph, and no heads on its arrows. */
+static size_t sketched(void) {
+    size_t len = (size_t)election_draw(N, nodes, NODES, channels, CHANNELS, drawing, DRAWING).size;
+    if (len < 2)
+        return 0;
+    memcpy(sketch, drawing + 2, len - 2);
+    for (size_t i = 0; i < len - 2; i++)
+        if (sketch[i] == '>')
+            sketch[i] = '-';
+    return election_sketch_stations(sketch, len - 2) == N ? len - 2 : 0;
+}
+
 static size_t deepest[CALLS];
 
 static void measure(void) {
@@ -105,7 +121,8 @@ static void *run(void *given) {
     for (uint32_t waiting = 0; waiting <= ELECTION_CAPACITY; waiting += ELECTION_CAPACITY / 2) {
         fill(waiting);
         image_len = (size_t)election_save(N, nodes, NODES, channels, CHANNELS, image, IMAGE).size;
-        if (image_len == 0)
+        sketch_len = sketched();
+        if (image_len == 0 || sketch_len == 0)
             return given;
         measure();
     }
@@ -114,6 +131,7 @@ static void *run(void *given) {
     fill(ELECTION_CAPACITY);
     channels[CHANNELS - 1] = 1;
     image[image_len - 1] ^= 1;
+    sketch[sketch_len - 1] ^= 1;
     measure();
     return NULL;
 }
