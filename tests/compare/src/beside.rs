@@ -1,10 +1,12 @@
 //! One plot in both: the reference's plot and the tables lent to the interface.
 
+use crate::drawings::{compare_links, compare_text};
 use crate::ffi;
 use crate::heights::{compare_heights, lent_height};
 use crate::questions::{Asked, compare_stations};
 use crate::random::Random;
 use crate::tally::Tally;
+use reference::drawing;
 use reference::history::History;
 use reference::image;
 use reference::plot::Plot;
@@ -62,6 +64,7 @@ impl Beside {
         self.assert_same_tables();
         self.ask(tally);
         self.ask_heights(tally);
+        self.ask_drawing(tally);
         self.history.note(event, &answer);
         note_event(event, &answer, tally);
         answer
@@ -85,6 +88,15 @@ impl Beside {
         let held = |u, v| lent_height(n, &self.tables, u, v);
         compare_heights(held(u, u), held(v, v), tally);
         compare_heights(held(u, u), held(u, v), tally);
+    }
+
+    /// The drawing, at each event with another room; its links beside the words at each eighth.
+    fn ask_drawing(&self, tally: &mut Tally) {
+        let text = drawing::draw(&self.plot);
+        compare_text(self.n(), &self.tables, &text, self.events, tally);
+        if self.events.is_multiple_of(8) {
+            compare_links(self.n(), &self.tables, tally);
+        }
     }
 
     fn asked(&self) -> Asked<'_> {
@@ -222,6 +234,17 @@ pub fn expected_check(result: Result<(), Refusal>) -> ffi::Checked {
     }
 }
 
+/// The interface's form of a save or a drawing with this many bytes.
+pub fn expected_saved(size: Result<usize, Refusal>) -> ffi::Saved {
+    let check = expected_check(size.map(|_| ()));
+    ffi::Saved {
+        number: check.number,
+        fault_at: check.fault_at,
+        fault_with: check.fault_with,
+        size: size.unwrap_or(0) as u64,
+    }
+}
+
 /// The number of a result, for the tally.
 pub fn number_of<T>(result: &Result<T, Refusal>) -> i64 {
     result.as_ref().err().map_or(0, |refusal| refusal.number())
@@ -256,14 +279,8 @@ pub fn compare_save(n: i64, lent: &Tables, room: usize, random: &mut Random, tal
     let image = expected.as_deref().unwrap_or(&[]);
     filled[..image.len()].copy_from_slice(image);
     assert!(out == filled, "bytes of a save");
-    let check = expected_check(expected.as_ref().map(|_| ()).map_err(|&refusal| refusal));
-    let expected = ffi::Saved {
-        number: check.number,
-        fault_at: check.fault_at,
-        fault_with: check.fault_with,
-        size: image.len() as u64,
-    };
-    assert_eq!(answer, expected, "save");
+    let size = expected.as_ref().map(Vec::len).map_err(|&refusal| refusal);
+    assert_eq!(answer, expected_saved(size), "save");
 }
 
 /// A resume of any image into tables that held anything, in both.

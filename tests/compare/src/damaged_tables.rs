@@ -2,11 +2,13 @@
 
 use crate::beside::{Beside, compare_check, compare_save, compare_step};
 use crate::damage;
+use crate::drawings::compare_draw;
 use crate::events::{any_event, planted_event};
 use crate::planted;
 use crate::questions::compare_questions;
 use crate::random::Random;
 use crate::tally::Tally;
+use reference::drawing;
 use reference::image;
 
 /// Damages the tables of one plot in several ways, each from the sound ones.
@@ -34,5 +36,8 @@ pub fn damaged_tables(seed: u64, tally: &mut Tally) {
         let longest = image::longest(n);
         let room = random.pick(&[longest, longest, longest, 0, 24, longest / 2]);
         compare_save(n, &lent, room, &mut random, tally);
+        let longest = drawing::longest(n as u32);
+        let room = random.pick(&[longest, longest, longest + 1, 0, 21, longest / 2]);
+        compare_draw(n, &lent, room, &mut random, tally);
     }
 }

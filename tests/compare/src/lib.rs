@@ -7,6 +7,7 @@ pub mod beside;
 pub mod damage;
 pub mod damaged_images;
 pub mod damaged_tables;
+pub mod drawings;
 pub mod events;
 // rust/src/ffi.rs, taken in whole; it says why.
 #[path = "../../../rust/src/ffi.rs"]

@@ -2,7 +2,9 @@
 
 use crate::random::Random;
 use crate::tally::Tally;
-use crate::{damaged_images, damaged_tables, heights, histories, places, questions, sizes};
+use crate::{
+    damaged_images, damaged_tables, drawings, heights, histories, places, questions, sizes,
+};
 
 /// A kind of round.
 pub struct Kind {
@@ -21,11 +23,14 @@ const fn kind(name: &'static str, round: fn(u64, &mut Tally), in_a_lap: usize) -
 }
 
 /// All kinds of rounds.
-pub const KINDS: [Kind; 12] = [
+pub const KINDS: [Kind; 15] = [
     kind("fresh history", histories::fresh_history, 20),
     kind("planted history", histories::planted_history, 40),
     kind("planted groups", questions::planted_groups, 40),
     kind("random heights", heights::random_heights, 1000),
+    kind("drawn rooms", drawings::drawn_rooms, 20),
+    kind("thrown sketches", drawings::thrown_sketches, 2),
+    kind("drawings there and back", drawings::there_and_back, 20),
     kind("damaged tables", damaged_tables::damaged_tables, 20),
     kind("damaged images", damaged_images::damaged_images, 10),
     kind("wrong sizes", sizes::wrong_sizes, 2),

@@ -3,17 +3,20 @@
 use crate::beside::{
     Beside, compare_check, compare_restore, compare_save, compare_step, expected_check,
 };
+use crate::drawings::{compare_draw, compare_read};
 use crate::ffi;
 use crate::planted;
 use crate::questions::compare_questions;
 use crate::random::Random;
 use crate::tally::Tally;
+use reference::drawing;
 use reference::image;
 use reference::refusal::Refusal;
+use reference::sketches;
 use reference::step::Event;
 use reference::tables::{self, Tables};
 
-/// The four lengths for one n; 0 outside 1 to 16.
+/// The five lengths for one n; 0 outside 1 to 16.
 pub fn compare_lengths(n: u32) {
     let wide = i64::from(n);
     let expected = if tables::is_station_count(wide) {
@@ -22,15 +25,17 @@ pub fn compare_lengths(n: u32) {
             tables::channels_len(wide),
             tables::row_len(wide),
             image::longest(wide),
+            drawing::longest(n),
         ]
     } else {
-        [0; 4]
+        [0; 5]
     };
     let said = [
         ffi::nodes_len(n),
         ffi::channels_len(n),
         ffi::row_len(n),
         ffi::image_len(n),
+        ffi::drawing_len(n),
     ];
     assert_eq!(said, expected, "lengths for {n}");
 }
@@ -56,6 +61,13 @@ pub fn wrong_sizes(seed: u64, tally: &mut Tally) {
         }
         compare_save(said, &lent, image::longest(8), &mut random, tally);
         compare_restore(&image_of(n, &sound), lent.clone(), tally);
+        for room in [0, drawing::longest(8)] {
+            compare_draw(said, &lent, room, &mut random, tally);
+            compare_draw(said, &all_ones(&lent), room, &mut random, tally);
+        }
+        for links in [&[(1, 1)][..], &[]] {
+            compare_read(&sketches::written(n as u32, links), &lent, tally);
+        }
         compare_fresh(said, lent, tally);
     }
 }
@@ -74,6 +86,10 @@ pub fn seventeen_stations(tally: &mut Tally) {
     compare_step(17, Event::Down { u: 1, v: 2 }, &lent, tally);
     compare_step(17, Event::Receipt { from: 1, to: 2 }, &lent, tally);
     compare_save(17, &lent, image::longest(17), &mut Random::new(17), tally);
+    compare_draw(17, &lent, 4000, &mut Random::new(17), tally);
+    for links in [&[(1, 1)][..], &[]] {
+        compare_read(&sketches::written(17, links), &lent, tally);
+    }
     compare_fresh(17, lent, tally);
 }
 

@@ -16,6 +16,7 @@ fn tables() {
         "save 2",
     ]);
     tally.assert_met(&["up U", "down Q", "receipt Q", "save 0", "save 14"]);
+    tally.assert_met(&["draw 0", "draw 2", "draw 14"]);
     tally.assert_met(&["quiet 0", "groups 0", "quiet 2", "groups 2"]);
     tally.assert_met(&["group of 2", "group of 2 before 3", "group of 3"]);
 }
@@ -39,6 +40,8 @@ fn sizes() {
     tally.assert_met(&["check 0", "check 1", "up 1", "down 1", "receipt 1"]);
     tally.assert_met(&["save 0", "save 1", "restore 0", "restore 1"]);
     tally.assert_met(&["fresh 0", "fresh 1"]);
+    tally.assert_met(&["draw 0", "draw 1", "draw 2", "draw 14"]);
+    tally.assert_met(&["sketch 0", "sketch 1", "sketch 17"]);
     tally.assert_met(&["quiet 0", "quiet 1", "quiet 2"]);
     tally.assert_met(&["groups 0", "groups 1", "groups 2"]);
     tally.assert_met(&[
@@ -54,7 +57,7 @@ fn seventeen_stations() {
     let mut tally = Tally::default();
     sizes::seventeen_stations(&mut tally);
     tally.assert_met(&["check 1", "up 1", "down 1", "receipt 1"]);
-    tally.assert_met(&["save 1", "fresh 1"]);
+    tally.assert_met(&["save 1", "fresh 1", "draw 1", "sketch 16"]);
     tally.assert_met(&["quiet 1", "groups 1", "group of 1", "group of 1 before 3"]);
 }
 

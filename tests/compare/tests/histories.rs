@@ -37,6 +37,15 @@ const ASKED: [&str; 10] = [
     "asked: a channel one way between groups",
 ];
 
+/// What the drawings of the plots met have to show.
+const DRAWN: [&str; 5] = [
+    "draw 0",
+    "draw 14",
+    "drawn: an arrow to a lower number",
+    "drawn: an arrow to a higher number",
+    "drawn: a channel one way",
+];
+
 /// From the fresh plots of 1 to 16 stations, with saves and resumes between, and demand 3 on every quiet network met.
 #[test]
 fn fresh_histories() {
@@ -54,6 +63,7 @@ fn fresh_histories() {
         "quiet groups of 5 to 16",
     ]);
     tally.assert_met(&ASKED);
+    tally.assert_met(&DRAWN);
     // Not 2: levels of one time by two originators are rare here.
     assert_parted(&tally, &[1, 3, 4, 5, 6, 7]);
 }
@@ -68,6 +78,7 @@ fn planted_histories() {
     tally.assert_met(&["up 7", "down 7", "receipt 7"]);
     tally.assert_met(&["receipt 8", "down 9", "receipt 9"]);
     tally.assert_met(&ASKED);
+    tally.assert_met(&DRAWN);
     assert_parted(&tally, &[1, 2, 3, 4, 5, 6, 7]);
 }
 
