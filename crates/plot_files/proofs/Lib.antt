@@ -1,0 +1,2 @@
+-- Laws of the events of a bench input.
+mod EventLaws
