@@ -12,7 +12,7 @@ export WORK CLOCK
 trap 'rm -rf "$WORK"' EXIT
 chmod 755 "$WORK"
 mkdir "$WORK/tools" "$WORK/rt" "$WORK/links" "$WORK/log"
-for tool in bash env readlink dirname cat head tail awk find sort xargs sha256sum grep mkdir rm flock sleep; do
+for tool in bash env readlink dirname cat head tail awk find sort xargs sha256sum grep mkdir rm flock sleep base64; do
     ln -s "$(command -v "$tool")" "$WORK/tools/$tool"
 done
 paths=$WORK/rt:$WORK/tools
@@ -43,6 +43,29 @@ show:cut) echo refused 12 ;;
 show:rule) echo refused 2 3 1 ;;
 *:numbers) printf '%s\n' 0 12 ;;
 *:zero) echo refused 0 ;;
+*:killed) kill -KILL $$ ;;
+esac
+END
+
+# Its word, and what the file says: a drawing, an image of 5 bytes with a 0 among them, or the lines that it has for what it refuses.
+cat >"$WORK/plot_draw" <<'END'
+#!/usr/bin/env bash
+case $1:$(cat) in
+plot:good) printf '%s\n' 'digraph plot {' '  1;' '}' ;;
+sketch:good) printf '\x10\x20\x08\x00\xff' ;;
+plot:cut) echo refused 12 ;;
+plot:short) echo refused 10 ;;
+plot:other) echo refused 11 ;;
+plot:rule) echo refused 2 3 1 ;;
+plot:bad) echo bad plot ;;
+plot:half) printf '%s\n' 'digraph plot {' '  1;' ;;
+sketch:other) echo refused 16 ;;
+sketch:linked) echo refused 17 ;;
+sketch:long) echo too long ;;
+sketch:half) printf '\x10' ;;
+sketch:version) printf '\x20\x20\x08\x00\xff' ;;
+*:zero) echo refused 0 ;;
+*:numbers) printf '%s\n' 'refused 12' 'refused 16' ;;
 *:killed) kill -KILL $$ ;;
 esac
 END
@@ -172,7 +195,7 @@ from_nothing_at_once() {
 "$(cat "$WORK/plan")" "$@"
 END
 ln -s "$(command -v install)" "$WORK/install"
-chmod +x "$WORK/bench" "$WORK/image_look" "$WORK/rt/rt" "$WORK/rt/sleep"
+chmod +x "$WORK/bench" "$WORK/image_look" "$WORK/plot_draw" "$WORK/rt/rt" "$WORK/rt/sleep"
 
 # ---- calls
 
@@ -214,8 +237,8 @@ scratch() {
     rm -rf "$WORK/root"
     mkdir -p "$WORK/root/crates" "$WORK/root/target/bin" "$WORK/root/target/stamp"
     cp -R "$here/bin" "$WORK/root/bin"
-    printf '%s\n' '# crates' 'low:' 'bench: middle io # and low' 'other: low' 'middle: low' 'image_look: middle io' >"$WORK/root/crates.txt"
-    for crate in low middle other bench image_look; do
+    printf '%s\n' '# crates' 'low:' 'bench: middle io # and low' 'other: low' 'middle: low' 'image_look: middle io' 'plot_draw: middle io' >"$WORK/root/crates.txt"
+    for crate in low middle other bench image_look plot_draw; do
         mkdir -p "$WORK/root/crates/$crate/src"
         echo "// $crate" >"$WORK/root/crates/$crate/src/lib.rt"
     done
@@ -224,10 +247,11 @@ scratch() {
     plan nothing_changed
 }
 
-# Both programs, proved.
+# All programs, proved.
 programs() {
     call 'root/bin/bench plot' >"$WORK/log/programs"
     call 'root/bin/image check plot' >"$WORK/log/programs"
+    call 'root/bin/draw plot' >"$WORK/log/programs"
     : >"$WORK/calls"
 }
 
@@ -255,6 +279,12 @@ arguments() {
     call 'root/bin/image show'
     call 'root/bin/image check plot plot'
     call 'root/bin/image check --nope plot'
+    for command in draw sketch; do
+        call "root/bin/$command --help"
+        call "root/bin/$command"
+        call "root/bin/$command plot plot"
+        call "root/bin/$command --nope plot"
+    done
     note 'all of these'
 }
 
@@ -265,7 +295,7 @@ files() {
     echo secret >"$WORK/unreadable"
     chmod 000 "$WORK/unreadable"
     ln -s nowhere "$WORK/dangling"
-    for command in bench 'image check'; do
+    for command in bench 'image check' draw sketch; do
         call "root/bin/$command missing"
         call "root/bin/$command ''"
         call "root/bin/$command dangling"
@@ -280,6 +310,8 @@ files() {
     programs
     call 'root/bin/bench <&-'
     call 'root/bin/image show - <&-'
+    call 'root/bin/draw - <&-'
+    call 'root/bin/sketch - <&-'
     # open, but not for reading
     call 'root/bin/bench 0>log/none'
     call 'root/bin/image check - 0>log/none'
@@ -332,6 +364,8 @@ full() {
     call 'root/bin/image --help >/dev/full'
     call 'root/bin/image show image >/dev/full'
     call 'root/bin/image check image >/dev/full'
+    call 'root/bin/draw image >/dev/full'
+    call 'root/bin/sketch image >/dev/full'
     call 'root/bin/bench missing 2>/dev/full'
     echo '// more' >>"$WORK/root/crates/low/src/lib.rt"
     rm "$WORK/root/target/bin/bench"
@@ -349,6 +383,27 @@ image() {
     done
     call 'root/bin/image check - <good'
     call 'root/bin/image show - <cut'
+    note 'all of these'
+}
+
+# An image's bytes are written out in hexadecimal here.
+drawing() {
+    local od
+    od=$(command -v od)
+    programs
+    for holds in good cut short other rule bad half zero numbers silent killed; do
+        echo "$holds" >"$WORK/$holds"
+        call "root/bin/draw $holds" | grep -v 'Killed'
+    done
+    call 'root/bin/draw - <good'
+    call 'cat good | root/bin/draw -'
+    for holds in good other linked long half version zero numbers silent killed; do
+        echo "$holds" >"$WORK/$holds"
+        call "set -o pipefail; root/bin/sketch $holds | $od -An -tx1" | grep -v 'Killed' | sed "s|$od|od|"
+    done
+    call 'root/bin/sketch - <linked'
+    ln -s ../root/bin/draw "$WORK/links/draw"
+    call 'links/draw good'
     note 'all of these'
 }
 
@@ -463,7 +518,8 @@ terminal() {
         sed -e "s/$(printf '\r')/</g" -e "s/$(printf '\033')\[K/>/g" -e 's/><b/>\n<b/g' -e "s|^\$ .*/script |$ script |"
 }
 
-# The proved bench: what it lists is the same from a file, from standard input and through a link, and nothing is said.
+# The proved programs: what bench lists is the same from a file, from standard input and through a link, and nothing is said; what draw draws is
+# that of examples/, of an image too; a sketch becomes an image, and that the drawing of the plot; each refusal has its line and status.
 real() {
     ln -s "$here/bin/bench" "$WORK/links/real"
     bin/bench examples/plot.txt >"$WORK/listing"
@@ -472,9 +528,31 @@ real() {
         eval "$line" >"$WORK/listing" 2>&1
         cmp examples/plot.out "$WORK/listing"
     done
+    for line in "bin/draw examples/plot.txt" "bin/draw - <examples/plot.txt" "bin/draw examples/plot.image" "cat examples/plot.image | bin/draw -"; do
+        eval "$line" >"$WORK/listing" 2>&1
+        cmp examples/plot.dot "$WORK/listing"
+    done
+    bin/sketch examples/plan.dot >"$WORK/plan.image"
+    [ "$(bin/image check "$WORK/plan.image")" = 0 ]
+    bin/draw "$WORK/plan.image" | sed -e 's/^digraph/graph/' -e 's/  \(.*\) -> \(.*\);/  \2 -- \1;/' | cmp examples/plan.dot -
+    refuses 16 'bin/sketch examples/plot.dot'
+    refuses 17 'sed "s/5 -- 6/6 -- 6/" examples/plan.dot | bin/sketch -'
+    refuses 10 'printf N | bin/draw -'
+    refuses 11 'bin/draw examples/plan.dot'
+    refuses 12 'head -c 400 examples/plot.image | bin/draw -'
+    refuses 2 '{ head -c 8 examples/plot.image; printf "\x00\x01"; tail -c +11 examples/plot.image; } | bin/draw -' ' 1 1'
 }
 
-for each in arguments files links output image proving failing library two_at_a_time; do
+refuses() { # NUMBER LINE PAIR
+    local status=0
+    eval "$2" >"$WORK/listing" 2>"$WORK/log/err" || status=$?
+    if [ "$status" -ne 3 ] || [ -s "$WORK/listing" ] || ! grep -qE "^(draw|sketch): refused $1${3-}: " "$WORK/log/err" || [ "$(wc -l <"$WORK/log/err")" -ne 1 ]; then
+        echo "commands: $2: status $status, $(cat "$WORK/log/err")"
+        failed=1
+    fi
+}
+
+for each in arguments files links output image drawing proving failing library two_at_a_time; do
     group "$each"
 done
 if [ -e /dev/full ]; then
