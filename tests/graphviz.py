@@ -1,7 +1,8 @@
 #!/usr/bin/env python3
 """Drawings and sketches as Graphviz reads them: python3 tests/graphviz.py FOLDER, in the project, behind bin/draw, bin/sketch and bin/image.
 
-What `dot -Tplain` finds in a text, nodes and edges in its order and with their direction, is held to what the plot has by another way:
+What `dot -Tplain` finds in a text, nodes and edges with their direction, is held to what the plot has by another way, and so are the lines of a
+drawing in their order, since Graphviz lists edges by its own:
 - a sketch: its own lines;
 - the drawing of an image: the links that target/bin/image_look shows of it;
 - the drawing of a quiet plot whose links are a forest: the collectors that target/bin/bench lists. Each arrow leads one link nearer to them.
@@ -31,7 +32,7 @@ def wrong(what, text):
 
 
 def graphviz(text):
-    """Nodes and edges, each in Graphviz' order: nodes as they come in the text, edges by their first node."""
+    """Nodes as they come in the text; edges by their first node, then their second."""
     nodes, edges = [], []
     for line in call(["dot", "-Tplain"], text).decode().split("\n"):
         words = line.split()
@@ -49,8 +50,15 @@ def held(what, text, n, edges):
     found = graphviz(text)
     if found[0] != nodes:
         wrong(f"{what}: nodes {found[0]}, not {nodes}", text)
-    if found[1] != [(str(a), str(b)) for a, b in edges]:
+    if found[1] != [(str(a), str(b)) for a, b in sorted(edges)]:
         wrong(f"{what}: edges {found[1]}, not {edges}", text)
+
+
+def held_drawing(what, text, n, arrows):
+    held(what, text, n, arrows)
+    lines = ["digraph plot {"] + [f"  {k};" for k in range(1, n + 1)] + [f"  {a} -> {b};" for a, b in arrows] + ["}", ""]
+    if text.decode().split("\n") != lines:
+        wrong(f"{what}: not these lines: {lines}", text)
 
 
 # ---- the texts
@@ -84,8 +92,7 @@ def deliveries(links, rounds):
 def of_sketch(n, links):
     """The sketch as Graphviz reads it, and its image: shown, drawn, and drawn of the same plot on the bench."""
     text = sketch(n, links)
-    order = sorted(range(len(links)), key=lambda i: (links[i][0], i))
-    held("a sketch", text, n, [links[i] for i in order])
+    held("a sketch", text, n, links)
     counts["sketches"] += 1
     image = call(["target/bin/plot_draw", "sketch"], text)
     drawn = of_image(image)
@@ -100,7 +107,7 @@ def of_image(image):
         wrong("no image", shown.encode())
     arrows = sorted((int(a), int(b)) for a, b in re.findall(r"^link (\d+) to (\d+) by ", shown, re.M))
     drawn = call(["target/bin/plot_draw", "plot"], image)
-    held("an image", drawn, int(stations[1]), arrows)
+    held_drawing("an image", drawn, int(stations[1]), arrows)
     counts["images"] += 1
     return drawn
 
@@ -120,7 +127,7 @@ def of_elections(n, links, events):
                     wrong("two leaders in a group", listed.encode())
     arrows = sorted((a, b) if far[a] > far[b] else (b, a) for a, b in links)
     drawn = call(["target/bin/plot_draw", "plot"], bench(n, events))
-    held("a plot after elections", drawn, n, arrows)
+    held_drawing("a plot after elections", drawn, n, arrows)
     counts["elections"] += 1
 
 

@@ -1,7 +1,7 @@
 #!/usr/bin/env bash
 # The tests beside the proofs: the papers' names and counts, the C interface and its examples, the Rust library, and the independent
 # implementation beside the proved one.
-# Needs rt, gcc, g++, cargo and python3, and takes valgrind and clippy where they are; a step that cannot run is left out, and a line says so.
+# Needs rt, gcc, g++, cargo and python3, and takes valgrind, clippy and Graphviz where they are; a step that cannot run is left out, and a line says so.
 # A line for each step; the last line says how many passed; exit code 0 only if all did.
 set -euo pipefail
 cd "$(dirname "$0")/.."
@@ -109,6 +109,11 @@ step "bin/bench prints examples/plot.out" bench_prints
 step "bin/image shows examples/plot.image, and refuses its parts by their numbers" image_shows
 step "bin/: arguments, files, links, devices, proving and progress (tests/commands.sh)" bash tests/commands.sh
 grep '^tests: NOT RUN' "$log/step" || true
+if bash tests/graphviz.sh has; then
+    step "drawings and sketches as Graphviz reads them (tests/graphviz.sh)" bash tests/graphviz.sh
+else
+    echo "tests: NOT RUN, no Graphviz here, and none to be had: drawings and sketches as Graphviz reads them"
+fi
 step "the archive for C and Rust (bin/install)" bin/install "$log/installed"
 if gcc --version >"$log/step" 2>&1 && g++ --version >"$log/step" 2>&1; then
     programs="examples/logger examples/six examples/devices tests/c/header tests/c/groups tests/c/heights tests/c/links tests/c/drawing"
