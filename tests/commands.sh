@@ -537,16 +537,21 @@ real() {
     bin/draw "$WORK/plan.image" | sed -e 's/^digraph/graph/' -e 's/  \(.*\) -> \(.*\);/  \2 -- \1;/' | cmp examples/plan.dot -
     refuses 16 'bin/sketch examples/plot.dot'
     refuses 17 'sed "s/5 -- 6/6 -- 6/" examples/plan.dot | bin/sketch -'
+    refuses 17 'bin/sketch crates/drawing_cases/data/longest'
+    refuses 'too long' 'bin/sketch crates/drawing_cases/data/too_long'
+    refuses 'too long' '{ cat examples/plan.dot; head -c 2000000 /dev/zero; } | bin/sketch -'
+    refuses 'bad plot' 'bin/draw crates/bench_cases/data/too_long'
     refuses 10 'printf N | bin/draw -'
     refuses 11 'bin/draw examples/plan.dot'
     refuses 12 'head -c 400 examples/plot.image | bin/draw -'
     refuses 2 '{ head -c 8 examples/plot.image; printf "\x00\x01"; tail -c +11 examples/plot.image; } | bin/draw -' ' 1 1'
 }
 
-refuses() { # NUMBER LINE PAIR
-    local status=0
+refuses() { # NUMBER-OR-WORDS LINE PAIR
+    local status=0 says=$1
+    [[ $1 == *[a-z]* ]] || says="refused $1"
     eval "$2" >"$WORK/listing" 2>"$WORK/log/err" || status=$?
-    if [ "$status" -ne 3 ] || [ -s "$WORK/listing" ] || ! grep -qE "^(draw|sketch): refused $1${3-}: " "$WORK/log/err" || [ "$(wc -l <"$WORK/log/err")" -ne 1 ]; then
+    if [ "$status" -ne 3 ] || [ -s "$WORK/listing" ] || ! grep -qE "^(draw|sketch): $says${3-}: " "$WORK/log/err" || [ "$(wc -l <"$WORK/log/err")" -ne 1 ]; then
         echo "commands: $2: status $status, $(cat "$WORK/log/err")"
         failed=1
     fi
