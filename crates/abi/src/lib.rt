@@ -333,7 +333,7 @@ pub extern "C" fn election_draw(
 pub extern "C" fn election_sketch_stations(text: &[u8]) -> u32
     ensures { λ r. ⌜ r ≡ nodesOf (now (text .entry)) ⌝ }
 {
-    drawing::nodes_in(text)
+    drawing::nodes_of(text)
 }
 
 // The network of a sketch goes into the tables.

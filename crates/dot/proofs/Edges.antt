@@ -57,7 +57,7 @@ module _ (mark : ℕ) (e : Edge) (ys : List ℕ) where
       ap (λ (k : ℕ). drop k fromFirst) (a .size) ∙ drop-append-seam (decimal (e .first)) (between mark ++ fromSecond) in
       ap edgeAt line-apart ∙ ap₂ edge (a .number) (ap (λ (l : List ℕ). numberAt (drop 4 l)) behind ∙ b .number)
 
-  pub edge-starts : numbered e ≡ true → startsWithEdge mark (edgeLine mark e ++ ys) ≡ true
+  edge-starts : numbered e ≡ true → startsWithEdge mark (edgeLine mark e ++ ys) ≡ true
   unfolding startsWithEdge
   edge-starts h = rw (edge-back h) (and-both h (starts-append (edgeLine mark e) ys))
 
@@ -69,7 +69,7 @@ foot-no-edge mark = refl
 -- ---- from any bytes
 
 module _ (mark : ℕ) (xs : List ℕ) (h : startsWithEdge mark xs ≡ true) where
-  pub found-numbered : numbered (edgeAt xs) ≡ true
+  found-numbered : numbered (edgeAt xs) ≡ true
   unfolding startsWithEdge
   found-numbered = and-left (numbered (edgeAt xs)) (startsWith (edgeLine mark (edgeAt xs)) xs) h
 
@@ -77,7 +77,7 @@ module _ (mark : ℕ) (xs : List ℕ) (h : startsWithEdge mark xs ≡ true) wher
   unfolding startsWithEdge
   found-starts = and-right (numbered (edgeAt xs)) (startsWith (edgeLine mark (edgeAt xs)) xs) h
 
-  pub found-split : xs ≡ edgeLine mark (edgeAt xs) ++ drop (length (edgeLine mark (edgeAt xs))) xs
+  found-split : xs ≡ edgeLine mark (edgeAt xs) ++ drop (length (edgeLine mark (edgeAt xs))) xs
   found-split = starts-split (edgeLine mark (edgeAt xs)) xs found-starts
 
   pub found-long : length (edgeLine mark (edgeAt xs)) ≤ length xs

@@ -10,7 +10,7 @@ use Rattle.dot.specs.Graph.{lineEnd, nodeLine, between, edgeLine}
 use Rattle.dot.specs.declared.Edge.{Edge}
 
 -- two spaces
-abbrev pub indent : List ℕ
+abbrev indent : List ℕ
 indent = 32 ∷ 32 ∷ []
 
 pub node-pieces : (k : ℕ) → indent ++ (decimal k ++ lineEnd) ≡ nodeLine k

@@ -24,7 +24,7 @@ starts-split bs xs h =
 pub starts-long : (bs xs : List ℕ) → startsWith bs xs ≡ true → length bs ≤ length xs
 starts-long bs xs h = omega (arith, ap length (starts-split bs xs h), length-append bs (drop (length bs) xs))
 
-pub starts-none : (xs : List ℕ) → startsWith [] xs ≡ true
+starts-none : (xs : List ℕ) → startsWith [] xs ≡ true
 unfolding startsWith
 starts-none xs = refl
 

@@ -31,7 +31,7 @@ module _ (room line after : List ℕ) (size : ℕ) (wide : length room ≡ 32) (
   pub line-fits : size ≤ length after
   line-fits = omega (arith, ap length put, length-poured room 0 line, size-is, wide, short)
 
-  pub line-front : take size after ≡ line
+  line-front : take size after ≡ line
   line-front =
       let all : after ≡ line ++ drop (length line) room = put ∙ poured-all room line (omega (arith, wide, short)) in
       ap₂ take size-is all ∙ take-append-seam line (drop (length line) room)

@@ -5,13 +5,18 @@ use Prim.Native.Nat.{ℕ, _≤_}
 use native.Mathlib.Omega.{arith}
 use mathlib.Core.Bool.{Bool, true, false, not, _&&_, _||_, or-false}
 use mathlib.Core.List.{List, [], _∷_, map}
+use mathlib.Core.Logic.{inl, inr}
 use mathlib.Core.Path.{_≡_, refl, sym, ap, ap₂, _∙_}
 use Rattle.basics.specs.Functions.{afterAll, sayAll}
+use Rattle.basics.proofs.Tests.{Choice, yes!, no!, choice, SameOrNot, equal?}
 use Rattle.calls.specs.History.{State, started, advance, grown}
 use Rattle.calls.proofs.Good.{Good, good-started, good-advance}
 use Rattle.calls.proofs.Theorems.{grown-steady}
+use Rattle.dot.specs.Graph.{graphHead, dash}
+use Rattle.dot.specs.Sketch.{Sketch, sketchWith, sketchOf}
 use Rattle.dot.specs.declared.Edge.{Edge}
-use Rattle.dot.proofs.Exactly.{IsSketch, exactly}
+use Rattle.dot.proofs.Exactly.{IsSketch, exactly, nodes-none, nodes-some}
+use Rattle.dot.proofs.Tells.{text-tells}
 use Rattle.election.specs.RunOn.{EventCall, tablesLeft, saidOn}
 use Rattle.election.specs.StepOn.{stepOn}
 use Rattle.election.proofs.RunLaws.{own-call}
@@ -21,13 +26,14 @@ use Rattle.protocol.specs.Answer.{Said, carriedOut}
 use Rattle.protocol.specs.Network.{Node, fresh, upTo}
 use Rattle.protocol.specs.Refusal.{answer}
 use Rattle.protocol.specs.Step.{Event, up, peer}
-use Rattle.refusal.specs.Outcome.{Outcome, outcome}
+use Rattle.refusal.specs.Outcome.{Answered, Outcome, outcome, refusedWith}
 use Rattle.refusal.specs.Refusal.{why}
+use Rattle.refusal.specs.declared.Why.{Why}
 use Rattle.tables.specs.Load.{load, tablesOf}
 use Rattle.tables.specs.Tables.{Tables, sized}
 use Rattle.tables.proofs.Back.{storable, load-back}
 use Rattle.drawing.specs.Drawing.{points}
-use Rattle.drawing.specs.Links.{names, drawn, linksHold, upsOf}
+use Rattle.drawing.specs.Links.{names, namedBy, linksHold, upsOf}
 use Rattle.drawing.specs.Read.{readLinks, readSized, readSketch, readOn}
 use Rattle.drawing.proofs.Arrows.{linked-points}
 use Rattle.drawing.proofs.Risen.{risen, turned}
@@ -47,7 +53,7 @@ pub record FromSketch (n : ℕ) (es : List Edge) : Type 0 where
   -- each up says 0, U, and its other node as the set sent to
   pub carried-out : sayAll (advance n) (λ s e. answer n (s .network) e) started (upsOf es) ≡ map (λ e. saidUp n (peer e)) (upsOf es)
   -- exactly the channels named are up, each in both directions
-  pub channels : (u v : ℕ) → upTo (grown n (upsOf es) .network) u v ≡ drawn es u v
+  pub channels : (u v : ℕ) → upTo (grown n (upsOf es) .network) u v ≡ namedBy es u v
   -- the same on tables: what the calls say, and what they leave
   pub said : sayAll tablesLeft saidOn (tablesOf n fresh) (map (callOn n) (upsOf es)) ≡ map (λ e. saidUp n (peer e)) (upsOf es)
   pub left : afterAll tablesLeft (tablesOf n fresh) (map (callOn n) (upsOf es)) ≡ tablesOf n (grown n (upsOf es) .network)
@@ -56,13 +62,13 @@ pub record FromSketch (n : ℕ) (es : List Edge) : Type 0 where
 
 -- ---- from the fresh plot
 
-none-up : (n : ℕ) → Rising n started (drawn [])
-unfolding drawn
+none-up : (n : ℕ) → Rising n started (namedBy [])
+unfolding namedBy
 none-up n = record { good = good-started n; ups = λ u v. refl; clocks = λ u. omega arith }
 
-nothing-more : (es : List Edge) (u v : ℕ) → (drawn es u v || drawn [] u v) ≡ drawn es u v
-unfolding drawn
-nothing-more es u v = or-false (drawn es u v)
+nothing-more : (es : List Edge) (u v : ℕ) → (namedBy es u v || namedBy [] u v) ≡ namedBy es u v
+unfolding namedBy
+nothing-more es u v = or-false (namedBy es u v)
 
 -- the same calls on tables
 record OnTables (n : ℕ) (s : State) (es : List Event) : Type 0 where
@@ -95,21 +101,56 @@ from-sketch n es low few h =
       holds = load-back n (grown n (upsOf es) .network) (storable n (grown n (upsOf es) .network) (r .rising .good .fits));
     }
 
--- ---- reading: a sketch whose links hold is read, exactly so
+-- ---- reading, case by case: the text is no sketch, or the one sketch that it is decides
 
-pub read-sketch : (n : ℕ) (es : List Edge) (xs : List ℕ) (t : Tables) → IsSketch xs n es → sized n t ≡ true → linksHold n [] es ≡ true
-    → readOn xs t ≡ outcome (why 0 0 0) (tablesOf n (grown n (upsOf es) .network))
-unfolding readOn readSketch readSized readLinks
-read-sketch n es xs t s fit h = rw (exactly xs .taken n es s, fit, h) refl
+pub data Reading (xs : List ℕ) (t : Tables) : Outcome Why Tables → Type 0 where
+  noSketch : ((n : ℕ) (es : List Edge) → IsSketch xs n es → ⊥) → Reading xs t (outcome (why 16 0 0) t)
+  misfit : {n : ℕ} {es : List Edge} → IsSketch xs n es → sized n t ≡ false → Reading xs t (outcome (why 1 0 0) t)
+  badLink : {n : ℕ} {es : List Edge} → IsSketch xs n es → sized n t ≡ true → linksHold n [] es ≡ false → Reading xs t (outcome (why 17 0 0) t)
+  plot : {n : ℕ} {es : List Edge} → IsSketch xs n es → sized n t ≡ true → linksHold n [] es ≡ true
+      → Reading xs t (outcome (why 0 0 0) (tablesOf n (grown n (upsOf es) .network)))
+
+-- a text is the sketch of one n and one list of edges
+pub one-sketch : (xs : List ℕ) (n m : ℕ) (es fs : List Edge) → IsSketch xs n es → IsSketch xs m fs → (n ≡ m) × (es ≡ fs)
+one-sketch xs n m es fs a b = text-tells graphHead dash n m es fs (a .few) (b .few) (a .numbers) (b .numbers) (sym (a .text) ∙ b .text)
+
+by-sketch : (xs : List ℕ) (t : Tables) (n : ℕ) (es : List Edge) → IsSketch xs n es → readOn xs t ≡ readSized n es t
+unfolding readOn readSketch
+by-sketch xs t n es s = ap (λ (x : Answered Sketch). readSketch x t) (exactly xs .taken n es s)
+
+by-case : (xs : List ℕ) (t : Tables) (n : ℕ) (es : List Edge) → IsSketch xs n es → Choice (sized n t) → Choice (linksHold n [] es)
+    → Reading xs t (readSized n es t)
+unfolding readSized readLinks
+by-case xs t n es s (no! a) b = rw a (misfit s a)
+by-case xs t n es s (yes! a) (no! b) = rw (a, b) (badLink s a b)
+by-case xs t n es s (yes! a) (yes! b) = rw (a, b) (plot s a b)
+
+-- what the text says
+refused-16 : (xs : List ℕ) (t : Tables) → sketchOf xs ≡ refusedWith (sketchWith 0 []) (why 16 0 0) → readOn xs t ≡ outcome (why 16 0 0) t
+unfolding readOn readSketch
+refused-16 xs t e = ap (λ (x : Answered Sketch). readSketch x t) e
+
+pub read-cases : (xs : List ℕ) (t : Tables) → Reading xs t (readOn xs t)
+read-cases xs t = go (equal? (sketchOf xs .value .nodes) 0)
+  where
+    go : SameOrNot (sketchOf xs .value .nodes) 0 → Reading xs t (readOn xs t)
+    go (inl z) =
+        let e = nodes-none xs z in
+        rw (refused-16 xs t e) (noSketch (exactly xs .no-other (ap (λ (x : Answered Sketch). x .why .number) e)))
+    go (inr d) =
+        let n = sketchOf xs .value .nodes in
+        let es = sketchOf xs .value .edges in
+        let s = nodes-some xs d .1 in
+        rw (by-sketch xs t n es s) (by-case xs t n es s (choice (sized n t)) (choice (linksHold n [] es)))
 
 -- the drawing of the plot read has an arrow, one way or the other, for exactly the links named
 pub links-drawn : (n : ℕ) (es : List Edge) → 1 ≤ n → n ≤ 16 → linksHold n [] es ≡ true → (u v : ℕ) → Node n u → Node n v
-    → (points (grown n (upsOf es) .network) u v || points (grown n (upsOf es) .network) v u) ≡ drawn es u v
+    → (points (grown n (upsOf es) .network) u v || points (grown n (upsOf es) .network) v u) ≡ namedBy es u v
 links-drawn n es low few h u v a b =
     let p = grown n (upsOf es) .network in
     let f = from-sketch n es low few h in
     sym (linked-points n p (grown-steady n (upsOf es) .breaks-no-rule) u v a b)
-    ∙ (ap₂ (λ (x y : Bool). x && y) (f .channels u v) (f .channels v u ∙ turned es u v) ∙ twice (drawn es u v))
+    ∙ (ap₂ (λ (x y : Bool). x && y) (f .channels u v) (f .channels v u ∙ turned es u v) ∙ twice (namedBy es u v))
   where
     twice : (t : Bool) → (t && t) ≡ t
     twice true = refl

@@ -3,8 +3,10 @@
 use Prim.Native.Nat.{ℕ}
 use mathlib.Core.Bool.{true, false}
 use mathlib.Core.List.{List}
+use mathlib.Core.Logic.{inl, inr}
 use mathlib.Core.Path.{_≡_, refl, sym, subst, fun-ext, _∙_}
-use Rattle.basics.proofs.Tests.{clash, not-true-is-false}
+use lib.IntN.{ℤ}
+use Rattle.basics.proofs.Tests.{clash, not-true-is-false, SameOrNot, equal?}
 use Rattle.calls.specs.Component.{Linked, Joined, alone, link, Descending, arrived, falls, OneLeader}
 use Rattle.calls.specs.History.{grown}
 use Rattle.calls.proofs.Groups.{joined-trans, chain-falls, same-collector}
@@ -12,7 +14,7 @@ use Rattle.calls.proofs.Leaders.{quiet-quiescent}
 use Rattle.calls.proofs.Theorems.{grown-told, grown-led}
 use Rattle.height.specs.Height.{heightKey}
 use Rattle.height.specs.Order.{before}
-use Rattle.height.proofs.OrderLaws.{before-asym}
+use Rattle.height.proofs.OrderLaws.{before-asym, before-irrefl, before-trans}
 use Rattle.protocol.specs.Network.{Node, Network, upTo, own}
 use Rattle.protocol.specs.Quiet.{quiet}
 use Rattle.protocol.specs.Step.{Event}
@@ -26,14 +28,14 @@ pub data Follows (n : ℕ) (p : Network) : ℕ → ℕ → Type 0 where
   here : {u : ℕ} → Follows n p u u
   along : {u v w : ℕ} → Node n v → points p u v ≡ true → Follows n p v w → Follows n p u w
 
--- the one collector of u's group, the way to it, its end, and that nothing else of the group is an end
+-- of u's group with its one collector: a way of arrows leads from u to it, no arrow leaves it, and one leaves every other member; so whichever arrows
+-- are followed from u, they end at the collector
 pub record Led (n : ℕ) (p : Network) (u : ℕ) : Type 0 where
-  pub collector : ℕ
   pub one : OneLeader n (upTo p) (own p) u
-  pub same : one .leader ≡ collector
-  pub way : Follows n p u collector
-  pub end : (w : ℕ) → Node n w → points p collector w ≡ false
-  pub onward : (w : ℕ) → Joined n (upTo p) u w → (w ≡ collector → ⊥) → (x : ℕ) × (Node n x × (points p w x ≡ true))
+  pub way : Follows n p u (one .leader)
+  pub end : (w : ℕ) → Node n w → points p (one .leader) w ≡ false
+  pub onward : (w : ℕ) → Joined n (upTo p) u w → (w ≡ one .leader → ⊥) → (x : ℕ) × (Node n x × (points p w x ≡ true))
+  pub ends : (w : ℕ) → Follows n p u w → ((x : ℕ) → Node n x → points p w x ≡ false) → w ≡ one .leader
 
 -- ---- the proof
 
@@ -53,6 +55,21 @@ module _ (n : ℕ) (p : Network) where
   member-node : {u w : ℕ} → Node n u → Joined n (upTo p) u w → Node n w
   member-node a alone = a
   member-node a (link l j) = member-node (l .two .other) j
+
+  -- arrows lead inside the group, and down
+  follows-joined : {u w : ℕ} → Node n u → Follows n p u w → Joined n (upTo p) u w
+  follows-joined a here = alone
+  follows-joined {u = u} a (along {v = v} b h f) = link (arrow-links n p u v a b h .0) (follows-joined b f)
+
+  below : (k : List ℤ) {v w : ℕ} → Node n v → before (heightKey (own p v)) k ≡ true → Follows n p v w → before (heightKey (own p w)) k ≡ true
+  below k a b here = b
+  below k {v = v} a b (along {v = x} c h f) =
+      below k c (before-trans (heightKey (own p x)) (heightKey (own p v)) k (arrow-links n p v x a c h .1) b) f
+
+  -- arrows never run in a ring, whatever the network is
+  pub no-ring : (u v : ℕ) → Node n u → Node n v → points p u v ≡ true → Follows n p v u → ⊥
+  no-ring u v a b h f =
+      clash (below (heightKey (own p u)) b (arrow-links n p u v a b h .1) f) (before-irrefl (heightKey (own p u)))
 
   module _ (led : (u : ℕ) → Node n u → OneLeader n (upTo p) (own p) u) (u : ℕ) (node : Node n u) where
     abbrev first : OneLeader n (upTo p) (own p) u
@@ -76,15 +93,15 @@ module _ (n : ℕ) (p : Network) where
         let is : first .leader ≡ led w a .leader = same-collector n (upTo p) (own p) j first (led w a) in
         first-step (led w a .chain) (λ e. d (e ∙ sym is))
 
+    at-end : (w : ℕ) → Follows n p u w → ((x : ℕ) → Node n x → points p w x ≡ false) → w ≡ first .leader
+    at-end w f none = go (equal? w (first .leader))
+      where
+        go : SameOrNot w (first .leader) → w ≡ first .leader
+        go (inl e) = e
+        go (inr d) = let on = goes-on w (follows-joined node f) d in clash (on .1 .1) (none (on .0) (on .1 .0))
+
     all-led : Led n p u
-    all-led = record {
-      collector = first .leader;
-      one = first;
-      same = refl;
-      way = chain-follows (first .chain);
-      end = no-end;
-      onward = goes-on;
-    }
+    all-led = record { one = first; way = chain-follows (first .chain); end = no-end; onward = goes-on; ends = at-end }
 
 -- quiet, read off the network: one collector
 quiet-led : (n : ℕ) (es : List Event) → quiet n (grown n es .network) ≡ true → (u : ℕ) → Node n u

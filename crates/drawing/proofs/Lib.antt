@@ -12,5 +12,6 @@ pub mod Longest
 pub mod Leads
 pub mod Rising
 pub mod Risen
+pub mod LinksExactly
 pub mod Grown
 pub mod Worked

@@ -61,7 +61,7 @@ digits-more n h = go (choice (ltb n 10)) (choice (ltb (suc n) 10))
         omega (arith, i, digits-many n i, digits-many (suc n) j, width-two (suc n) j h)
 
 -- the digits of 1 to n
-pub digits-total : (n : ℕ) → n < 100 → total n width ≡ digitsTo n
+digits-total : (n : ℕ) → n < 100 → total n width ≡ digitsTo n
 unfolding total
 digits-total zero h = sym (digits-few 0 (omega arith))
 digits-total (suc n) h = ap (λ (x : ℕ). x + width (suc n)) (digits-total n (omega arith)) ∙ digits-more n h

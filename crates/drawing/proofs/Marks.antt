@@ -16,7 +16,7 @@ use Rattle.nodeset.specs.inner.Operations.{inEither}
 use Rattle.nodeset.proofs.Members.{member-setOf, none-in-zero}
 use Rattle.protocol.specs.Network.{Node, Two, isNode}
 use Rattle.protocol.proofs.NodeLaws.{is-node}
-use Rattle.drawing.specs.Links.{isLink, names, drawn}
+use Rattle.drawing.specs.Links.{isLink, names, namedBy}
 use Rattle.drawing.specs.inner.Seen.{Seen}
 
 -- ---- a link
@@ -39,7 +39,7 @@ zeros-at (suc k) zero = refl
 zeros-at (suc k) (suc i) = zeros-at k i
 
 pub none-seen : (n : ℕ) → Seen n [] (replicate 16 0)
-unfolding drawn
+unfolding namedBy
 none-seen n = record { size = refl; at = λ u v a b. ap (λ (s : ℕ). member s v) (zeros-at 16 (u - 1)) ∙ none-in-zero v }
 
 -- ---- a link marked
@@ -83,37 +83,37 @@ module _ (n : ℕ) (few : n ≤ 16) (e : Edge) (two : Two n (e .first) (e .secon
   at-other k a b = getD-set-other once j k (with (getD once j 0) (e .first)) 0 b ∙ getD-set-other xs i k (with (getD xs i 0) (e .second)) 0 a
 
   named-at : (u v : ℕ) → Node n u → Node n v → SameOrNot u (e .first) → SameOrNot u (e .second) → member (getD twice (u - 1) 0)
-      v ≡ (names e u v || drawn done u v)
+      v ≡ (names e u v || namedBy done u v)
   unfolding names
   named-at u v a b (inl p) q =
       let m = ap (λ (s : ℕ). member s v) (ap (λ (w : ℕ). getD twice (w - 1) 0) p ∙ at-first) in
       let other : eqb u (e .second) ≡ false = ne-eqb u (e .second) (λ z. two .differ (sym p ∙ z)) in
       let named : (eqb u (e .first) && eqb v (e .second) || eqb u (e .second) && eqb v (e .first)) ≡ eqb v (e .second) =
       rw (eq-eqb u (e .first) p, other) (or-false (eqb v (e .second))) in
-      let d : member (getD xs i 0) v ≡ drawn done u v = seen .at (e .first) v (two .one) b ∙ ap (λ (w : ℕ). drawn done w v) (sym p) in
+      let d : member (getD xs i 0) v ≡ namedBy done u v = seen .at (e .first) v (two .one) b ∙ ap (λ (w : ℕ). namedBy done w v) (sym p) in
       m
       ∙ (with-member (getD xs i 0) (e .second) v (b .low) (omega (arith, b .high, few))
       ∙ (ap (λ (t : Bool). t || eqb v (e .second)) d
-      ∙ (or-comm (drawn done u v) (eqb v (e .second))
-      ∙ ap (λ (t : Bool). t || drawn done u v) (sym named))))
+      ∙ (or-comm (namedBy done u v) (eqb v (e .second))
+      ∙ ap (λ (t : Bool). t || namedBy done u v) (sym named))))
   named-at u v a b (inr p) (inl q) =
       let m = ap (λ (s : ℕ). member s v) (ap (λ (w : ℕ). getD twice (w - 1) 0) q ∙ at-second) in
-      let d : member (getD xs j 0) v ≡ drawn done u v = seen .at (e .second) v (two .other) b ∙ ap (λ (w : ℕ). drawn done w v) (sym q) in
+      let d : member (getD xs j 0) v ≡ namedBy done u v = seen .at (e .second) v (two .other) b ∙ ap (λ (w : ℕ). namedBy done w v) (sym q) in
       let named : (eqb u (e .first) && eqb v (e .second) || eqb u (e .second) && eqb v (e .first)) ≡ eqb v (e .first) =
       rw (ne-eqb u (e .first) p, eq-eqb u (e .second) q) refl in
       m
       ∙ (with-member (getD xs j 0) (e .first) v (b .low) (omega (arith, b .high, few))
-      ∙ (ap (λ (t : Bool). t || eqb v (e .first)) d ∙ (or-comm (drawn done u v) (eqb v (e .first)) ∙ ap (λ (t : Bool). t || drawn done u v) (sym named))))
+      ∙ (ap (λ (t : Bool). t || eqb v (e .first)) d ∙ (or-comm (namedBy done u v) (eqb v (e .first)) ∙ ap (λ (t : Bool). t || namedBy done u v) (sym named))))
   named-at u v a b (inr p) (inr q) =
       let same : getD twice (u - 1) 0 ≡ getD xs (u - 1) 0 =
       at-other (u - 1) (λ z. p (omega (arith, z, a .low, two .one .low))) (λ z. q (omega (arith, z, a .low, two .other .low))) in
       let named : (eqb u (e .first) && eqb v (e .second) || eqb u (e .second) && eqb v (e .first)) ≡ false =
       rw (ne-eqb u (e .first) p, ne-eqb u (e .second) q) refl in
-      ap (λ (s : ℕ). member s v) same ∙ (seen .at u v a b ∙ ap (λ (t : Bool). t || drawn done u v) (sym named))
+      ap (λ (s : ℕ). member s v) same ∙ (seen .at u v a b ∙ ap (λ (t : Bool). t || namedBy done u v) (sym named))
 
   pub marked : Seen n (e ∷ done) (set (set xs (e .first - 1) (setOf 16 (inEither (member (getD xs (e .first - 1) 0)) (sameNode (e .second)))))
       (e .second - 1) (setOf 16 (inEither (member (getD once (e .second - 1) 0)) (sameNode (e .first)))))
-  unfolding drawn
+  unfolding namedBy
   marked = record {
     size = length-set once j (with (getD once j 0) (e .first)) ∙ (length-set xs i (with (getD xs i 0) (e .second)) ∙ seen .size);
     at = λ u v a b. named-at u v a b (equal? u (e .first)) (equal? u (e .second));

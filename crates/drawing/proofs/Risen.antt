@@ -14,7 +14,7 @@ use Rattle.dot.proofs.Exactly.{exactly}
 use Rattle.protocol.specs.Network.{Two}
 use Rattle.protocol.specs.Refusal.{answer}
 use Rattle.protocol.specs.Step.{up, peer}
-use Rattle.drawing.specs.Links.{isLink, names, drawn, linksHold, upsOf}
+use Rattle.drawing.specs.Links.{isLink, names, namedBy, linksHold, upsOf}
 use Rattle.drawing.proofs.Marks.{link-two}
 use Rattle.drawing.proofs.Rising.{Rising, raise, raisedTo, up-said, up-rises}
 
@@ -31,9 +31,9 @@ names-raised f e u v = swap (eqb u (e .second) && eqb v (e .first)) (eqb u (e .f
     swap false false c = refl
 
 -- what was named before does not count twice
-more-drawn : (e : Edge) (es done : List Edge) (u v : ℕ) → (drawn es u v || drawn (e ∷ done) u v) ≡ (drawn (e ∷ es) u v || drawn done u v)
-unfolding drawn
-more-drawn e es done u v = turn (drawn es u v) (names e u v) (drawn done u v)
+pub more-drawn : (e : Edge) (es done : List Edge) (u v : ℕ) → (namedBy es u v || namedBy (e ∷ done) u v) ≡ (namedBy (e ∷ es) u v || namedBy done u v)
+unfolding namedBy
+more-drawn e es done u v = turn (namedBy es u v) (names e u v) (namedBy done u v)
   where
     turn : (a b c : Bool) → (a || (b || c)) ≡ (b || a || c)
     turn true true c = refl
@@ -42,8 +42,8 @@ more-drawn e es done u v = turn (drawn es u v) (names e u v) (drawn done u v)
     turn false false c = refl
 
 -- both orders are named at once
-pub turned : (es : List Edge) (u v : ℕ) → drawn es v u ≡ drawn es u v
-unfolding drawn names
+pub turned : (es : List Edge) (u v : ℕ) → namedBy es v u ≡ namedBy es u v
+unfolding namedBy names
 turned [] u v = refl
 turned (e ∷ es) u v =
     ap₂ (λ (a b : Bool). a || b)
@@ -70,44 +70,44 @@ turned (e ∷ es) u v =
 same-rising : (n : ℕ) (s : State) (f g : ℕ → ℕ → Bool) → ((u v : ℕ) → f u v ≡ g u v) → Rising n s f → Rising n s g
 same-rising n s f g e r = let q : f ≡ g = fun-ext (λ u. fun-ext (e u)) in rw (← q) r
 
-none-drawn : (done : List Edge) (u v : ℕ) → drawn done u v ≡ (drawn [] u v || drawn done u v)
-unfolding drawn
+none-drawn : (done : List Edge) (u v : ℕ) → namedBy done u v ≡ (namedBy [] u v || namedBy done u v)
+unfolding namedBy
 none-drawn done u v = refl
 
 one-drawn : (e : Edge) (done : List Edge) (u v : ℕ)
-    → raise (raise (drawn done) (e .first) (e .second)) (e .second) (e .first) u v ≡ drawn (e ∷ done) u v
-unfolding drawn
-one-drawn e done u v = names-raised (drawn done) e u v
+    → raise (raise (namedBy done) (e .first) (e .second)) (e .second) (e .first) u v ≡ namedBy (e ∷ done) u v
+unfolding namedBy
+one-drawn e done u v = names-raised (namedBy done) e u v
 
 -- after all lines, those done before among them
 pub record Risen (n : ℕ) (s : State) (done es : List Edge) : Type 0 where
-  pub rising : Rising n (afterAll (advance n) s (upsOf es)) (λ u v. drawn es u v || drawn done u v)
+  pub rising : Rising n (afterAll (advance n) s (upsOf es)) (λ u v. namedBy es u v || namedBy done u v)
   pub answers : sayAll (advance n) (λ s e. answer n (s .network) e) s (upsOf es) ≡ map (λ e. raisedTo n (peer e)) (upsOf es)
 
-pub risen : (n : ℕ) → n ≤ 16 → (s : State) (done es : List Edge) → linksHold n done es ≡ true → Rising n s (drawn done) → Risen n s done es
+pub risen : (n : ℕ) → n ≤ 16 → (s : State) (done es : List Edge) → linksHold n done es ≡ true → Rising n s (namedBy done) → Risen n s done es
 unfolding linksHold upsOf
-risen n few s done [] h r = record { rising = same-rising n s (drawn done) (λ u v. drawn [] u v || drawn done u v) nothing r; answers = refl }
+risen n few s done [] h r = record { rising = same-rising n s (namedBy done) (λ u v. namedBy [] u v || namedBy done u v) nothing r; answers = refl }
   where
-    nothing : (u v : ℕ) → drawn done u v ≡ (drawn [] u v || drawn done u v)
+    nothing : (u v : ℕ) → namedBy done u v ≡ (namedBy [] u v || namedBy done u v)
     nothing u v = none-drawn done u v
 risen n few s done (e ∷ es) h r =
-    let new = and-left (isLink n e && not (drawn done (e .first) (e .second))) (linksHold n (e ∷ done) es) h in
-    let two = link-two n e (and-left (isLink n e) (not (drawn done (e .first) (e .second))) new) in
-    let off : drawn done (e .first) (e .second) ≡ false =
-    not-true (drawn done (e .first) (e .second)) (and-right (isLink n e) (not (drawn done (e .first) (e .second))) new) in
-    let first = up-rises n few s (drawn done) r (e .first) (e .second) two off in
+    let new = and-left (isLink n e && not (namedBy done (e .first) (e .second))) (linksHold n (e ∷ done) es) h in
+    let two = link-two n e (and-left (isLink n e) (not (namedBy done (e .first) (e .second))) new) in
+    let off : namedBy done (e .first) (e .second) ≡ false =
+    not-true (namedBy done (e .first) (e .second)) (and-right (isLink n e) (not (namedBy done (e .first) (e .second))) new) in
+    let first = up-rises n few s (namedBy done) r (e .first) (e .second) two off in
     let back : Two n (e .second) (e .first) = record { one = two .other; other = two .one; differ = λ q. two .differ (sym q) } in
     let s₁ = advance n s (up (e .first) (e .second)) in
-    let off₂ : raise (drawn done) (e .first) (e .second) (e .second) (e .first) ≡ false =
+    let off₂ : raise (namedBy done) (e .first) (e .second) (e .second) (e .first) ≡ false =
     rw (ne-eqb (e .second) (e .first) (back .differ)) (turned done (e .first) (e .second) ∙ off) in
-    let second = up-rises n few s₁ (raise (drawn done) (e .first) (e .second)) first (e .second) (e .first) back off₂ in
+    let second = up-rises n few s₁ (raise (namedBy done) (e .first) (e .second)) first (e .second) (e .first) back off₂ in
     let s₂ = advance n s₁ (up (e .second) (e .first)) in
-    let both = same-rising n s₂ (raise (raise (drawn done) (e .first) (e .second)) (e .second) (e .first)) (drawn (e ∷ done)) (one-drawn e done) second in
-    let rest = risen n few s₂ (e ∷ done) es (and-right (isLink n e && not (drawn done (e .first) (e .second))) (linksHold n (e ∷ done) es) h) both in
-    let said₁ = up-said n few s (drawn done) r (e .first) (e .second) two off in
-    let said₂ = up-said n few s₁ (raise (drawn done) (e .first) (e .second)) first (e .second) (e .first) back off₂ in
+    let both = same-rising n s₂ (raise (raise (namedBy done) (e .first) (e .second)) (e .second) (e .first)) (namedBy (e ∷ done)) (one-drawn e done) second in
+    let rest = risen n few s₂ (e ∷ done) es (and-right (isLink n e && not (namedBy done (e .first) (e .second))) (linksHold n (e ∷ done) es) h) both in
+    let said₁ = up-said n few s (namedBy done) r (e .first) (e .second) two off in
+    let said₂ = up-said n few s₁ (raise (namedBy done) (e .first) (e .second)) first (e .second) (e .first) back off₂ in
     record {
-      rising = same-rising n (afterAll (advance n) s₂ (upsOf es)) (λ u v. drawn es u v || drawn (e ∷ done) u v)
-          (λ u v. drawn (e ∷ es) u v || drawn done u v) (more-drawn e es done) (rest .rising);
+      rising = same-rising n (afterAll (advance n) s₂ (upsOf es)) (λ u v. namedBy es u v || namedBy (e ∷ done) u v)
+          (λ u v. namedBy (e ∷ es) u v || namedBy done u v) (more-drawn e es done) (rest .rising);
       answers = rw (said₁, said₂, rest .answers) refl;
     }

@@ -14,18 +14,18 @@ total (suc n) f = total n f + f (suc n)
 unfoldable pub totalPairs : ℕ → (ℕ → ℕ → ℕ) → ℕ
 totalPairs n w = total n (λ a. total n (w a))
 
-pub node-last : (n : ℕ) → Node (suc n) (suc n)
+node-last : (n : ℕ) → Node (suc n) (suc n)
 node-last n = record { low = omega arith; high = omega arith }
 
-pub node-up : (n k : ℕ) → Node n k → Node (suc n) k
+node-up : (n k : ℕ) → Node n k → Node (suc n) k
 node-up n k a = record { low = a .low; high = omega (arith, a .high) }
 
-pub total-add : (n : ℕ) (f g : ℕ → ℕ) → total n (λ k. f k + g k) ≡ total n f + total n g
+total-add : (n : ℕ) (f g : ℕ → ℕ) → total n (λ k. f k + g k) ≡ total n f + total n g
 unfolding total
 total-add zero f g = refl
 total-add (suc n) f g = omega (arith, total-add n f g)
 
-pub total-le : (n : ℕ) (f g : ℕ → ℕ) → ((k : ℕ) → Node n k → f k ≤ g k) → total n f ≤ total n g
+total-le : (n : ℕ) (f g : ℕ → ℕ) → ((k : ℕ) → Node n k → f k ≤ g k) → total n f ≤ total n g
 unfolding total
 total-le zero f g h = omega arith
 total-le (suc n) f g h = omega (arith, total-le n f g (λ k a. h k (node-up n k a)), h (suc n) (node-last n))
@@ -41,7 +41,7 @@ total-more zero c f = omega arith
 total-more (suc n) c f = omega (arith, total-more n c f)
 
 -- one node more: its pairs with each node before, both ways, and with itself
-pub pairs-more : (n : ℕ) (w : ℕ → ℕ → ℕ)
+pairs-more : (n : ℕ) (w : ℕ → ℕ → ℕ)
     → totalPairs (suc n) w ≡ totalPairs n w + total n (λ a. w a (suc n) + w (suc n) a) + w (suc n) (suc n)
 unfolding total totalPairs
 pairs-more n w =

@@ -25,7 +25,7 @@ use Rattle.refusal.specs.Outcome.{Outcome, outcome}
 use Rattle.tables.specs.Load.{tablesOf}
 use Rattle.tables.specs.Tables.{Tables}
 use Rattle.tables.proofs.Back.{tables-sized}
-use Rattle.drawing.specs.Links.{isLink, drawn, linksHold, upsOf}
+use Rattle.drawing.specs.Links.{isLink, namedBy, linksHold, upsOf}
 use Rattle.drawing.specs.inner.Seen.{edgesRead, Seen}
 use Rattle.drawing.proofs.Marks.{link-two}
 
@@ -67,14 +67,14 @@ module _ (n : ℕ) (xs seen : List ℕ) (at : ℕ) (c : Checking n xs seen at) w
     left-is = step .split ∙ ap (λ (x : Edge). x ∷ step .rest) is-edge
 
     -- by the marks, a link is new exactly where no line before names it
-    by-marks : isLink n e ≡ true → member (getD seen (e .first - 1) 0) (e .second) ≡ drawn (c .done) (e .first) (e .second)
+    by-marks : isLink n e ≡ true → member (getD seen (e .first - 1) 0) (e .second) ≡ namedBy (c .done) (e .first) (e .second)
     by-marks l = let two = link-two n e l in c .marks .at (e .first) (e .second) (two .one) (two .other)
 
-    new-is : t ≡ (isLink n e && not (drawn (c .done) (e .first) (e .second)))
+    new-is : t ≡ (isLink n e && not (namedBy (c .done) (e .first) (e .second)))
     new-is = said ∙ go (isLink n e) refl
       where
         go : (l : Bool) → isLink n e ≡ l
-            → (l && not (member (getD seen (e .first - 1) 0) (e .second))) ≡ (l && not (drawn (c .done) (e .first) (e .second)))
+            → (l && not (member (getD seen (e .first - 1) 0) (e .second))) ≡ (l && not (namedBy (c .done) (e .first) (e .second)))
         go true l = ap not (by-marks l)
         go false l = refl
 

@@ -16,14 +16,14 @@ unfoldable pub names : Edge → ℕ → ℕ → Bool
 names e u v = eqb u (e .first) && eqb v (e .second) || eqb u (e .second) && eqb v (e .first)
 
 -- one of the edges does
-unfoldable pub drawn : List Edge → ℕ → ℕ → Bool
-drawn [] u v = false
-drawn (e ∷ es) u v = names e u v || drawn es u v
+unfoldable pub namedBy : List Edge → ℕ → ℕ → Bool
+namedBy [] u v = false
+namedBy (e ∷ es) u v = names e u v || namedBy es u v
 
 -- 17 where this fails: every edge is a link that none of those before it names; `done` are those before, the last first
 unfoldable pub linksHold : ℕ → List Edge → List Edge → Bool
 linksHold n done [] = true
-linksHold n done (e ∷ es) = isLink n e && not (drawn done (e .first) (e .second)) && linksHold n (e ∷ done) es
+linksHold n done (e ∷ es) = isLink n e && not (namedBy done (e .first) (e .second)) && linksHold n (e ∷ done) es
 
 -- up both ways for each edge, in order
 unfoldable pub upsOf : List Edge → List Event

@@ -29,7 +29,7 @@ pub fn draw(n: u32, nodes: &[u32], channels: &[u32], out: &mut [u8]) -> Drawn
 }
 
 // How many nodes a sketch has: what tables to lend for reading it. 0 where the text is no sketch.
-pub fn nodes_in(text: &[u8]) -> u32
+pub fn nodes_of(text: &[u8]) -> u32
     ensures { λ r. ⌜ r ≡ nodesOf (now (text .entry)) ⌝ }
 {
     dot::sketch::form(text).nodes
@@ -55,7 +55,7 @@ pub fn read(text: &[u8], nodes: &mut [u32], channels: &mut [u32]) -> Checked
 {
     let form = dot::sketch::form(text);
     if form.nodes == 0 {
-        return Checked::Refused(Refusal::NotDrawing);
+        return Checked::Refused(Refusal::NotSketch);
     }
     if !lent::is_sized(form.nodes, nodes, channels) {
         return Checked::Refused(Refusal::Sizes);

@@ -1,10 +1,8 @@
 // The drawing of tables in which the check found no fault.
 ghost use mathlib.Core.Path.{_≡_};
-ghost use mathlib.Core.List.{List};
-ghost use Prim.Native.Nat.{ℕ, _+_, _^_, _<_};
+ghost use Prim.Native.Nat.{_+_, _^_, _<_};
 ghost use lib.ListN.{length};
 ghost use Rattle.dot.specs.Graph.{nodeLine, arrow, edgeLines};
-ghost use Rattle.height.specs.inner.Stored.{Negated};
 ghost use Rattle.lent.specs.Check.{checkOn};
 ghost use Rattle.protocol.specs.Network.{Node, upTo, own};
 ghost use Rattle.refusal.specs.Outcome.{outcome, putFront};

@@ -56,7 +56,10 @@ fn links() {
     sketch(b"arrow");
     sketch(b"chain");
     sketch(b"hundred");
+    sketch(b"hundred_second");
     sketch(b"zero_in_front");
+    sketch(b"zero_in_front_second");
+    sketch(b"drawing");
     sketch(b"bad_last_line");
 }
 

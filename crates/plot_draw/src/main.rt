@@ -1,6 +1,6 @@
 // A plot's drawing, or a sketch's image: bin/draw, bin/sketch, docs/DRAWING.md.
-// The first argument says what comes on standard input: `image`, `bench` or `sketch`; `plot` is an image or a bench input, which starts with "N ".
-// A sketch becomes an image, the others a drawing.
+// The first argument says what comes on standard input: `sketch`, which becomes an image, or `plot`, an image or a bench input (which starts with
+// "N "), which becomes a drawing.
 // Assumes what the programs assume: the contracts of the C functions (docs/TRUST.md, 5).
 
 fn is_bench(input: &[u8]) -> bool {
@@ -19,11 +19,7 @@ fn plot(input: &[u8]) {
 }
 
 fn by_word(first: u8, input: &[u8]) {
-    if first == b'i' {
-        plot_files::draw_image(input);
-    } else if first == b'b' {
-        plot_files::draw_bench(input);
-    } else if first == b's' {
+    if first == b's' {
         plot_files::save_sketch(input);
     } else if first == b'p' {
         plot(input);

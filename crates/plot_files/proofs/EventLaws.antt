@@ -1,6 +1,6 @@
 -- The event lines one by one: what the lines left make of the tables now is what all of them make of the tables at the start.
 use Prim.Native.Nat.{ℕ, _+_, _-_, _≤_, _<_}
-use mathlib.Core.List.{List, _∷_}
+use mathlib.Core.List.{List}
 use mathlib.Core.Path.{_≡_, refl, sym, ap, _∙_}
 use lib.ListN.{length, take, drop}
 use Rattle.bench_run.specs.inner.OnTables.{afterCommandOn, afterLinesOn}

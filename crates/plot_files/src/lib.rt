@@ -108,7 +108,7 @@ fn sketched(work: Work, input: &[u8]) {
         put(b"too long\n");
         return;
     }
-    on(work, drawing::nodes_in(input), input);
+    on(work, drawing::nodes_of(input), input);
 }
 
 // The drawing of a sketch's plot.

@@ -8,7 +8,7 @@ use lib.Dec.{eqb}
 use denote.Enum.Declared.{tagOf}
 use types.Run.{OneOf, miss}
 use Rattle.refusal.specs.Refusal.{why, whyOf}
-use Rattle.refusal.specs.declared.Refusal.the-variants.{ChannelFull, TooShort, BadHeader, BadEnd, NotPlace, NoRoom, Malformed, NotDrawing, BadLink}
+use Rattle.refusal.specs.declared.Refusal.the-variants.{ChannelFull, TooShort, BadHeader, BadEnd, NotPlace, NoRoom, Malformed, NotSketch, BadLink}
 use Rattle.refusal.specs.declared.Refusal.the-variants.{Sizes, Fault, NodeNumber, AlreadyUp, AlreadyDown, NoMessage, ClockEnd, DeltaEnd}
 use Rattle.refusal.specs.declared.Refusal.{Refusal}
 use Rattle.refusal.specs.declared.Why.{Why}
@@ -21,7 +21,7 @@ reasonFrom w =
     (cond (eqb (w .number) 7) ClockEnd (cond (eqb (w .number) 8) DeltaEnd (cond (eqb (w .number) 9) ChannelFull
     (cond (eqb (w .number) 10) TooShort (cond (eqb (w .number) 11) BadHeader (cond (eqb (w .number) 12) BadEnd
     (cond (eqb (w .number) 13) NotPlace (cond (eqb (w .number) 14) NoRoom (cond (eqb (w .number) 15) Malformed
-    (cond (eqb (w .number) 16) NotDrawing BadLink)))))))))))))))
+    (cond (eqb (w .number) 16) NotSketch BadLink)))))))))))))))
 
 pub reason-back : (r : Refusal) → reasonFrom (whyOf r) ≡ r
 unfolding reasonFrom
@@ -40,7 +40,7 @@ reason-back BadEnd = refl
 reason-back NotPlace = refl
 reason-back NoRoom = refl
 reason-back Malformed = refl
-reason-back NotDrawing = refl
+reason-back NotSketch = refl
 reason-back BadLink = refl
 
 pub why-injective : (r s : Refusal) → whyOf r ≡ whyOf s → r ≡ s
@@ -63,7 +63,7 @@ never-0 BadEnd = refl
 never-0 NotPlace = refl
 never-0 NoRoom = refl
 never-0 Malformed = refl
-never-0 NotDrawing = refl
+never-0 NotSketch = refl
 never-0 BadLink = refl
 
 -- ---- reasons without a pair: all but 2
@@ -87,7 +87,7 @@ pairless-said BadEnd k = refl
 pairless-said NotPlace k = refl
 pairless-said NoRoom k = refl
 pairless-said Malformed k = refl
-pairless-said NotDrawing k = refl
+pairless-said NotSketch k = refl
 pairless-said BadLink k = refl
 
 module _ (r : Refusal) (number : ℕ) (e : number ≡ whyOf r .number) where

@@ -19,7 +19,7 @@ pub enum Refusal {
     NotPlace, // 13
     NoRoom, // 14
     Malformed, // 15
-    NotDrawing, // 16
+    NotSketch, // 16
     BadLink, // 17
 }
 
@@ -50,7 +50,7 @@ pub fn number(reason: Refusal) -> u32
         Refusal::NotPlace => 13,
         Refusal::NoRoom => 14,
         Refusal::Malformed => 15,
-        Refusal::NotDrawing => 16,
+        Refusal::NotSketch => 16,
         Refusal::BadLink => 17,
     }
 }

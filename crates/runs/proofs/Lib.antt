@@ -9,3 +9,4 @@ pub mod SavedComesBack
 pub mod ReadOff
 pub mod Desk
 pub mod OlderSave
+pub mod Sketched

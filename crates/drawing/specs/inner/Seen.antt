@@ -7,11 +7,11 @@ use Rattle.dot.specs.Sketch.{sketchOf}
 use Rattle.dot.specs.declared.Edge.{Edge}
 use Rattle.nodeset.specs.NodeSet.{member}
 use Rattle.protocol.specs.Network.{Node}
-use Rattle.drawing.specs.Links.{drawn}
+use Rattle.drawing.specs.Links.{namedBy}
 
 abbrev pub edgesRead : List ℕ → List Edge
 edgesRead xs = sketchOf xs .value .edges
 
 pub record Seen (n : ℕ) (done : List Edge) (xs : List ℕ) : Type 0 where
   pub size : length xs ≡ 16
-  pub at : (u v : ℕ) → Node n u → Node n v → member (getD xs (u - 1) 0) v ≡ drawn done u v
+  pub at : (u v : ℕ) → Node n u → Node n v → member (getD xs (u - 1) 0) v ≡ namedBy done u v
