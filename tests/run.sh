@@ -1,7 +1,8 @@
 #!/usr/bin/env bash
 # The tests beside the proofs: the papers' names and counts, the C interface and its examples, the Rust library, and the independent
 # implementation beside the proved one.
-# Needs rt, gcc, g++, cargo and python3, and takes valgrind, clippy and Graphviz where they are; a step that cannot run is left out, and a line says so.
+# Needs rt, gcc, g++, cargo and python3, and takes valgrind and clippy where they are, and Graphviz, which it installs where apt-get can; a step that
+# cannot run is left out, and a line says so.
 # A line for each step; the last line says how many passed; exit code 0 only if all did.
 set -euo pipefail
 cd "$(dirname "$0")/.."
