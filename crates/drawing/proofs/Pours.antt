@@ -110,11 +110,6 @@ pub nothing-poured : (out : List ℕ) (at : ℕ) → Poured out at [] out at
 unfolding poured
 nothing-poured out at = record { bytes = refl; offset = sym (add-zero at) }
 
--- what was printed, as what was poured
-pub all-printed : {out after : List ℕ} {at behind : ℕ} {text : List ℕ} → (after ≡ poured out at text) × (behind ≡ at + length text) → Poured out at text
-    after behind
-all-printed e = record { bytes = e .0; offset = e .1 }
-
 -- a drawing is short
 pub arrows-le : (n : ℕ) (p : Network) → n ≤ 16 → length (edgeLines arrow (arrowsOf n p)) ≤ 7168
 arrows-le n p few =

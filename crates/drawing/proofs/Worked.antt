@@ -4,6 +4,7 @@ use Prim.Native.Nat.{ℕ}
 use mathlib.Core.Bool.{true, false}
 use mathlib.Core.List.{List, [], _∷_, _++_, flatMap}
 use mathlib.Core.Path.{_≡_, refl}
+use lib.ListN.{length}
 use Rattle.basics.specs.Functions.{every, everyPair, all, update}
 use Rattle.calls.specs.History.{advance, grown}
 use Rattle.commands.specs.Commands.{numberOf}
@@ -29,8 +30,9 @@ use Rattle.drawing.specs.Links.{isLink, names, namedBy, linksHold, upsOf
 
 -- a sketch of two linked nodes
 abbrev plan : List ℕ
-plan = 103 ∷ 114 ∷ 97 ∷ 112 ∷ 104 ∷ 32 ∷ 112 ∷ 108 ∷ 111 ∷ 116 ∷ 32 ∷ 123 ∷ 10 ∷ 32 ∷ 32 ∷ 49 ∷ 59 ∷ 10 ∷ 32 ∷ 32 ∷ 50 ∷ 59 ∷ 10 ∷ 32 ∷ 32 ∷ 49 ∷ 32 ∷ 45
-    ∷ 45 ∷ 32 ∷ 50 ∷ 59 ∷ 10 ∷ 125 ∷ 10 ∷ []
+plan =
+    103 ∷ 114 ∷ 97 ∷ 112 ∷ 104 ∷ 32 ∷ 112 ∷ 108 ∷ 111 ∷ 116 ∷ 32 ∷ 123 ∷ 10 ∷ 32 ∷ 32 ∷ 49 ∷ 59 ∷ 10 ∷ 32 ∷ 32 ∷ 50 ∷ 59
+    ∷ 10 ∷ 32 ∷ 32 ∷ 49 ∷ 32 ∷ 45 ∷ 45 ∷ 32 ∷ 50 ∷ 59 ∷ 10 ∷ 125 ∷ 10 ∷ []
 
 abbrev link : List Edge
 link = edge 1 2 ∷ []
@@ -41,20 +43,22 @@ settled = upsOf link ++ (receive 1 2 ∷ receive 2 1 ∷ receive 2 1 ∷ receive
 
 -- its drawing
 abbrev picture : List ℕ
-picture = 100 ∷ 105 ∷ 103 ∷ 114 ∷ 97 ∷ 112 ∷ 104 ∷ 32 ∷ 112 ∷ 108 ∷ 111 ∷ 116 ∷ 32 ∷ 123 ∷ 10 ∷ 32 ∷ 32 ∷ 49 ∷ 59 ∷ 10 ∷ 32 ∷ 32 ∷ 50 ∷ 59 ∷ 10 ∷ 32 ∷ 32
-    ∷ 50 ∷ 32 ∷ 45 ∷ 62 ∷ 32 ∷ 49 ∷ 59 ∷ 10 ∷ 125 ∷ 10 ∷ []
+picture =
+    100 ∷ 105 ∷ 103 ∷ 114 ∷ 97 ∷ 112 ∷ 104 ∷ 32 ∷ 112 ∷ 108 ∷ 111 ∷ 116 ∷ 32 ∷ 123 ∷ 10 ∷ 32 ∷ 32 ∷ 49 ∷ 59 ∷ 10 ∷ 32 ∷ 32
+    ∷ 50 ∷ 59 ∷ 10 ∷ 32 ∷ 32 ∷ 50 ∷ 32 ∷ 45 ∷ 62 ∷ 32 ∷ 49 ∷ 59 ∷ 10 ∷ 125 ∷ 10 ∷ []
 
 -- no arrow
 abbrev unlinked : List ℕ
-unlinked = 100 ∷ 105 ∷ 103 ∷ 114 ∷ 97 ∷ 112 ∷ 104 ∷ 32 ∷ 112 ∷ 108 ∷ 111 ∷ 116 ∷ 32 ∷ 123 ∷ 10 ∷ 32 ∷ 32 ∷ 49 ∷ 59 ∷ 10 ∷ 32 ∷ 32 ∷ 50 ∷ 59 ∷ 10 ∷ 125 ∷ 10
-    ∷ []
+unlinked =
+    100 ∷ 105 ∷ 103 ∷ 114 ∷ 97 ∷ 112 ∷ 104 ∷ 32 ∷ 112 ∷ 108 ∷ 111 ∷ 116 ∷ 32 ∷ 123 ∷ 10 ∷ 32 ∷ 32 ∷ 49 ∷ 59 ∷ 10 ∷ 32 ∷ 32
+    ∷ 50 ∷ 59 ∷ 10 ∷ 125 ∷ 10 ∷ []
 
 -- two links, the second line's arrow first: by the station that it leaves
 abbrev crossed : List ℕ
 crossed =
-    100 ∷ 105 ∷ 103 ∷ 114 ∷ 97 ∷ 112 ∷ 104 ∷ 32 ∷ 112 ∷ 108 ∷ 111 ∷ 116 ∷ 32 ∷ 123 ∷ 10 ∷ 32 ∷ 32 ∷ 49 ∷ 59 ∷ 10 ∷ 32 ∷ 32 ∷ 50 ∷ 59 ∷ 10 ∷ 32
-    ∷ 32 ∷ 51 ∷ 59 ∷ 10 ∷ 32 ∷ 32 ∷ 52 ∷ 59 ∷ 10 ∷ 32 ∷ 32 ∷ 51 ∷ 32 ∷ 45 ∷ 62 ∷ 32 ∷ 50 ∷ 59 ∷ 10 ∷ 32 ∷ 32 ∷ 52 ∷ 32 ∷ 45 ∷ 62 ∷ 32 ∷ 49 ∷ 59
-    ∷ 10 ∷ 125 ∷ 10 ∷ []
+    100 ∷ 105 ∷ 103 ∷ 114 ∷ 97 ∷ 112 ∷ 104 ∷ 32 ∷ 112 ∷ 108 ∷ 111 ∷ 116 ∷ 32 ∷ 123 ∷ 10 ∷ 32 ∷ 32 ∷ 49 ∷ 59 ∷ 10 ∷ 32 ∷ 32
+    ∷ 50 ∷ 59 ∷ 10 ∷ 32 ∷ 32 ∷ 51 ∷ 59 ∷ 10 ∷ 32 ∷ 32 ∷ 52 ∷ 59 ∷ 10 ∷ 32 ∷ 32 ∷ 51 ∷ 32 ∷ 45 ∷ 62 ∷ 32 ∷ 50 ∷ 59 ∷ 10 ∷ 32
+    ∷ 32 ∷ 52 ∷ 32 ∷ 45 ∷ 62 ∷ 32 ∷ 49 ∷ 59 ∷ 10 ∷ 125 ∷ 10 ∷ []
 
 pub record Worked : Type 0 where
   pub text : plan ≡ graphOf 2 link
@@ -85,6 +89,7 @@ pub record Worked : Type 0 where
   pub seventeen : sketchOf (graphOf 17 []) ≡ refusedWith (sketchWith 0 []) (why 16 0 0)
   -- the shortest and the longest drawing
   pub least : drawingLength 1 ≡ 22
+  pub reached : length picture ≡ drawingLength 2
   pub most : drawingLength 16 ≡ 1409
 
 pub worked : Worked
@@ -115,5 +120,6 @@ worked = record {
   sixteen = refl;
   seventeen = refl;
   least = refl;
+  reached = refl;
   most = refl;
 }

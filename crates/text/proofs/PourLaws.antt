@@ -14,7 +14,8 @@ pub record Poured (out : List ℕ) (at : ℕ) (text after : List ℕ) (behind : 
   pub bytes : after ≡ poured out at text
   pub offset : behind ≡ at + length text
 
-pub both : {out after : List ℕ} {at behind : ℕ} {text : List ℕ} → after ≡ poured out at text → behind ≡ at + length text → Poured out at text after behind
+pub both : {out after : List ℕ} {at behind : ℕ} {text : List ℕ} → after ≡ poured out at text → behind ≡ at + length text
+    → Poured out at text after behind
 both b p = record { bytes = b; offset = p }
 
 pub then : {out mid after : List ℕ} {at between behind : ℕ} {a b : List ℕ} → Poured out at a mid between → Poured mid between b after behind
@@ -78,8 +79,8 @@ in-turn-le m (suc n) f h =
     omega (arith, length-append (inTurn n f) (f (suc n)), in-turn-le m n f h, h (suc n), suc-mul n m)
 
 -- while pieces of at most m bytes are poured, the offset stays near
-pub printed-near : {n : ℕ} {f : ℕ → List ℕ} {out₀ out : List ℕ} {at offset u : ℕ} → Printed n f out₀ at out offset u → (m : ℕ) → ((k : ℕ) → length (f k) ≤ m)
-    → offset ≤ at + (u - 1) * m
+pub printed-near : {n : ℕ} {f : ℕ → List ℕ} {out₀ out : List ℕ} {at offset u : ℕ} → Printed n f out₀ at out offset u → (m : ℕ)
+    → ((k : ℕ) → length (f k) ≤ m) → offset ≤ at + (u - 1) * m
 printed-near {n} {f} {out₀} {out} {at} {offset} {u} p m h = omega (arith, p .so-far .offset, in-turn-le m (u - 1) f h)
 
 -- pieces that are the same

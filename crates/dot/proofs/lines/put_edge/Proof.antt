@@ -36,11 +36,12 @@ slice-aggregate-put-bytes-2 c = search needs
 
 put-bytes-requires-2 : tie.Need-put-bytes-requires-2
 put-bytes-requires-2 c κs =
+    let far = c .before .before .before .before .before .before .before .before .before .before in
     let put-decimal2 = c .before .before .before .before .put-decimal2 in
     let put-mark = c .before .before .before .before .before .before .before .before .put-mark in
-    let put-decimal = c .before .before .before .before .before .before .before .before .before .before .before .before .put-decimal in
-    let put-bytes = c .before .before .before .before .before .before .before .before .before .before .before .before .before .before .before .before .put-bytes in
-    let s = c .before .before .before .before .before .before .before .before .before .before .before .before .before .before .before .before .before .before .before .before in
+    let put-decimal = far .before .before .put-decimal in
+    let put-bytes = far .before .before .before .before .before .before .put-bytes in
+    let s = far .before .before .before .before .before .before .before .before .before .before in
     omega (
       arith,
       put-bytes .ensures .1,
@@ -57,12 +58,13 @@ same-length c = search needs
 
 returns : tie.Need-returns
 returns c =
+    let far = c .before .before .before .before .before .before .before .before .before .before in
     let put-bytes2 = c .before .before .put-bytes2 in
     let put-decimal2 = c .before .before .before .before .before .before .before .put-decimal2 in
-    let put-mark = c .before .before .before .before .before .before .before .before .before .before .before .put-mark in
-    let put-decimal = c .before .before .before .before .before .before .before .before .before .before .before .before .before .before .before .put-decimal in
-    let put-bytes = c .before .before .before .before .before .before .before .before .before .before .before .before .before .before .before .before .before .before .before .put-bytes in
-    let s = c .before .before .before .before .before .before .before .before .before .before .before .before .before .before .before .before .before .before .before .before .before .before .before in
+    let put-mark = far .before .put-mark in
+    let put-decimal = far .before .before .before .before .before .put-decimal in
+    let put-bytes = far .before .before .before .before .before .before .before .before .before .put-bytes in
+    let s = far .before .before .before .before .before .before .before .before .before .before .before .before .before in
     let a = put-bytes .ensures in
     let b = put-decimal .ensures in
     let m = put-mark .ensures in

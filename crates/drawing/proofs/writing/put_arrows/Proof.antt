@@ -11,7 +11,7 @@ use Rattle.text.specs.Text.{inTurn}
 use Rattle.text.proofs.PourLaws.{both, named-so, Printed, printed-none, printed-next, printed-near, printed-all}
 use Rattle.text.proofs.TextLaws.{length-poured}
 use Rattle.drawing.specs.Drawing.{arrowTo}
-use Rattle.drawing.proofs.Pours.{row-le, all-arrows, all-printed}
+use Rattle.drawing.proofs.Pours.{row-le, all-arrows}
 use Rattle.drawing.proofs.writing.put_arrows.Statement.{statement}
 use Rattle.drawing.proofs.writing.put_arrows.Tie as tie
 
@@ -55,7 +55,9 @@ same-length : tie.Need-same-length Inv-loop μ-loop
 same-length c = ap length (c .before .loop .inv .so-far .bytes) ∙ length-poured _ _ _
 
 returns : tie.Need-returns Inv-loop μ-loop
-returns c = named-so (all-printed (printed-all _ _ _ _ _ _ (c .before .loop .a) (c .before .loop .inv) (omega (arith, c .loop-test .left)))) (all-arrows _ _)
+returns c =
+    let all = printed-all _ _ _ _ _ _ (c .before .loop .a) (c .before .loop .inv) (omega (arith, c .loop-test .left)) in
+    named-so (both (all .0) (all .1)) (all-arrows _ _)
 
 pub put-arrows-spec : {M : Type 1} → statement M
 put-arrows-spec =
