@@ -13,6 +13,7 @@
 #include "election.h"
 
 enum { N = 6, NODES = ELECTION_NODES_LEN(N), CHANNELS = ELECTION_CHANNELS_LEN(N), PACKET = 4 * ELECTION_MESSAGE_LEN };
+static const uint32_t LAST_TIME = 4294967295u;
 
 typedef struct {
     uint32_t nodes[NODES];
@@ -25,12 +26,14 @@ static uint32_t *cell_of(tables *t, uint32_t from, uint32_t to) { return t->chan
 
 /* ---- a device: what firmware does, with nothing but its own tables, its own u and packets */
 
-/* The fresh plot, and every other station may have sent something to u. */
+/* The fresh plot, and every other station may have sent something to u, at any time. */
 static uint32_t device_start(tables *t, uint32_t u) {
     election_checked c = election_fresh(N, t->nodes, NODES, t->channels, CHANNELS);
     for (uint32_t v = 1; v <= N; v++)
-        if (v != u)
+        if (v != u) {
             row_of(t, v)[ELECTION_AT_FORMING] = (uint32_t)1 << (u - 1);
+            row_of(t, v)[ELECTION_AT_CLOCK] = LAST_TIME;
+        }
     return c.number;
 }
 
@@ -78,7 +81,7 @@ static election_answer device_hears(tables *t, uint32_t v, uint32_t u, const uin
 /* ---- the devices and the plot beside them */
 
 static tables plot, device[N + 1], at_first[N + 1];
-static uint32_t events, rules[128], numbers[ELECTION_ROOM + 1];
+static uint32_t events, rules[128], numbers[ELECTION_UNTIMELY + 1];
 static const char *broken = "";
 
 static int breaks(const char *what) { return events >= 1000 && strcmp(broken, what) == 0; }
@@ -129,14 +132,23 @@ static void down(uint32_t u, uint32_t v) {
     compare('D', u, v, u, device_down(t, u, v), election_down(N, u, v, plot.nodes, NODES, plot.channels, CHANNELS));
 }
 
-/* Now and then the radio garbles a packet: it names another sender, is refused with that pair, and comes again. */
-static void garbled(uint32_t from, uint32_t to, const uint8_t packet[PACKET]) {
+/* Now and then the radio garbles a packet: it is refused with this number and pair, and comes again. */
+static void garbled(uint32_t from, uint32_t to, const uint8_t packet[PACKET], uint32_t number) {
+    election_answer a = device_hears(&device[to], from, to, packet);
+    if (a.number != number || a.fault_at != from || a.fault_with != to || !same_tables(to))
+        differs('M', from, to, "what a garbled packet did", to);
+}
+
+/* It names another sender; it has an election later than its stamp, unless that is the last time. */
+static void garbles(uint32_t from, uint32_t to, const uint8_t packet[PACKET]) {
     uint8_t other[PACKET];
     memcpy(other, packet, PACKET);
     other[4 * ELECTION_AT_STATION + 3] = (uint8_t)to;
-    election_answer a = device_hears(&device[to], from, to, other);
-    if (a.number != ELECTION_FAULT || a.fault_at != from || a.fault_with != to || !same_tables(to))
-        differs('M', from, to, "what a garbled packet did", to);
+    garbled(from, to, other, ELECTION_FAULT);
+    memcpy(other, packet, PACKET);
+    memset(other + 4 * ELECTION_AT_ELECTION_TIME, 0xff, 4);
+    if (memcmp(other + 4 * ELECTION_AT_ELECTION_TIME, other + 4 * ELECTION_AT_STAMP, 4) != 0)
+        garbled(from, to, other, ELECTION_UNTIMELY);
 }
 
 /* The radio carries the next packet, if there is one; taken or refused, the sender hears of it. */
@@ -151,7 +163,7 @@ static void deliver(uint32_t from, uint32_t to) {
         said = election_receive(N, from, to, t->nodes, NODES, t->channels, CHANNELS);
     } else {
         if (events % 16 == 0)
-            garbled(from, to, packet);
+            garbles(from, to, packet);
         if (breaks("stamp"))
             packet[PACKET - 1] ^= 1;
         said = device_hears(&device[to], from, to, packet);
@@ -309,7 +321,7 @@ int main(int argc, char **argv) {
 
     start();
     for (uint32_t u = 1; u <= N; u++)
-        plant(u, ELECTION_AT_CLOCK, 4294967295u - 200);
+        plant(u, ELECTION_AT_CLOCK, LAST_TIME - 200);
     at_random(2000, 12, 8);
     show("clocks near their end");
 

@@ -32,7 +32,7 @@ static void show(const char *event, uint32_t u, uint32_t v, election_answer a) {
     printf("%s %" PRIu32 " %" PRIu32 ": %" PRIu32 ", rule %c, sent %" PRIu32, event, u, v, a.number, (char)a.rule, a.sent);
     if (a.rule == ELECTION_RULE_ADOPT)
         printf(", adopted from %" PRIu32, a.adopted_from);
-    if (a.number == ELECTION_FAULT)
+    if (a.number == ELECTION_FAULT || a.number == ELECTION_UNTIMELY)
         printf(", fault at %" PRIu32 " %" PRIu32, a.fault_at, a.fault_with);
     printf("\n");
 }

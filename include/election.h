@@ -30,40 +30,46 @@
  * WHOSE TABLES. They hold a whole plot, as a bench or a gateway keeps it. A logger knows itself and its radio, and that is enough: an
  * event at u depends on row u, the cells from u and, for a receipt, the message received; of all else only that the check passes.
  * Logger u keeps tables of its own (examples/devices.c; what of this is proved, own-view, is in docs/FIRMWARE.md):
- *   at first   election_fresh, then the forming set of every other row is {u}: cell v to u may now hold a packet
+ *   at first   election_fresh, then in every other row v the forming set is {u} and the clock the last time: cell v to u may now hold a
+ *              packet, with any stamp
  *   link       election_up or election_down for its own u, as its radio finds or loses v; a packet under way is lost with the link
  *   sending    the first message of a cell u to v is the packet to send to v; when v has it, it leaves the cell: the others move up,
  *              the last place becomes zero, the count falls by one
  *   hearing    a packet from v becomes the one message of cell v to u, count 1; then election_receive(n, v, u, ..). 0: the cell is
- *              empty again. Refused: zero its words; the packet was not taken, and 2 with the pair v u says that it is no message of v's
+ *              empty again. Refused: zero its words; the packet was not taken, and 2 with the pair v u says that it is no message of v's,
+ *              18 that it has a time after its stamp
  * Nothing else is written. election_quiet, election_groups and election_group_of say something of a whole plot's tables only.
  *
  * THREADS. No static data, no allocation, no lock. Calls on different memory may run at once; calls that share memory may if none
  * writes it (const marks what is only read).
  *
- * SIZE (x86-64, docs/FIRMWARE.md): 31 KB of code; ELECTION_STACK_MAX bytes of stack at most; tables and image as lent. Of the
+ * SIZE (x86-64, docs/FIRMWARE.md): 30 KB of code; ELECTION_STACK_MAX bytes of stack at most; tables and image as lent. Of the
  * C library it needs memmove and memset. The archive is for x86-64 only: docs/FIRMWARE.md says what to do on another processor.
  *
  * WHAT PASSES THE CHECK (else 2). The sets of u share no station and hold neither u nor a bit above n. A height has an originator up to n
  * and a bit up to 1; its search time and its originator are 0 only together, and then the bit is 0 too; a depth of -32,768 to 32,767;
  * a leader of 1 to n; and the station that it is of: k for what a row holds of k, the sender in a message. At most eight wait, none on a
  * channel that is down. What is said above to be zero is zero.
+ * And (else 18) no time is later than what bounds it: the search time and the election time of every height in row u, its own and its
+ * views, are at most the clock of u; so is every stamp on a channel from u; both times of a message are at most its stamp. Tables that
+ * only these calls have written since election_fresh always pass.
  *
  * THE ORDER OF CHECKS. The first number that applies is answered.
  *   compare                        none: it takes any two heights
  *   fresh                          1
- *   check, quiet, groups           1, 2
- *   group_of                       1, 2, 3
- *   up, down, receive              1, 2, 3; 4 for up, 5 for down, 6 for receive; 7, 8, 9
- *   save, draw                     1, 2, 14
+ *   check, quiet, groups           1, 2, 18
+ *   group_of                       1, 2, 18, 3
+ *   up, down, receive              1, 2, 18, 3; 4 for up, 5 for down, 6 for receive; 7, 8, 9
+ *   save, draw                     1, 2, 18, 14
  *   image_stations                 10, 11
  *   restore, read_node             10, 11, 1, then the walk over the records: a count above 8 is 2 with its pair and an early end is
- *                                  12, whichever comes first; then bytes or bits left over, 12; then contents, 2;
+ *                                  12, whichever comes first; then bytes or bits left over, 12; then contents, 2, 18;
  *                                  and for read_node at last 3, 13
  *   sketch_stations                none: it takes any text
  *   read_sketch                    16 by the whole text, 1 by its n, 17
- * The pair of 2 is the first at fault, u ascending, then v. The pair u u covers both sets, the own height and the unused cell u to u
- * (a clock may be any word); the pair u v covers the view of v in row u and the channel u to v.
+ * The pair of 2 is the first at fault, u ascending, then v. The pair u u covers both sets, the own height and the unused cell u to u;
+ * the pair u v covers the view of v in row u and the channel u to v. 18 comes only where no pair is at fault, with the first pair of which
+ * a time makes no sense: u u for the own height, u v for the view and the channel. By itself a clock may be any word.
  */
 #ifndef ELECTION_H
 #define ELECTION_H
@@ -76,10 +82,11 @@ extern "C" {
 #endif
 
 /* The version of this interface. MAJOR moves when something declared here changes its meaning or goes, MINOR when something is added (a
- * call, a number, a letter: take a number that you do not know as a refusal), PATCH with words only. The archive has no number of its
- * own: take both from one bin/install. */
+ * call, a number, a letter: take a number that you do not know as a refusal), PATCH with words only. A number added may refuse what was
+ * carried out before: since 1.3.0 it is 18, and a logger with tables of its own sets the clocks of the other rows (WHOSE TABLES). The
+ * archive has no number of its own: take both from one bin/install. */
 #define ELECTION_VERSION_MAJOR 1
-#define ELECTION_VERSION_MINOR 2
+#define ELECTION_VERSION_MINOR 3
 #define ELECTION_VERSION_PATCH 0
 #define ELECTION_VERSION (ELECTION_VERSION_MAJOR * 1000000 + ELECTION_VERSION_MINOR * 1000 + ELECTION_VERSION_PATCH)
 
@@ -144,7 +151,8 @@ enum {
     ELECTION_ROOM = 14,          /* output room too small */
                                  /* 15 is the bench's alone */
     ELECTION_SKETCH_FORM = 16,   /* the text is no sketch, or one of more than 16 stations */
-    ELECTION_SKETCH_LINK = 17    /* a sketch links to 0, above n, a station to itself, or two stations twice, in either order */
+    ELECTION_SKETCH_LINK = 17,   /* a sketch links to 0, above n, a station to itself, or two stations twice, in either order */
+    ELECTION_UNTIMELY = 18       /* tables or image hold a time later than its clock or stamp, first at the pair (fault_at, fault_with) */
 };
 
 /* A line for a returned number, and one for any other. */
@@ -167,6 +175,7 @@ static inline const char *election_strerror(uint32_t number) {
     case ELECTION_ROOM: return "the room for the image or the drawing is too small";
     case ELECTION_SKETCH_FORM: return "the text is no sketch of 1 to 16 stations";
     case ELECTION_SKETCH_LINK: return "the sketch has a link to no station, to itself, or named twice";
+    case ELECTION_UNTIMELY: return "the tables or the image hold a time later than its clock or stamp at the pair that is named";
     default: return "no number of this interface";
     }
 }
@@ -225,7 +234,7 @@ enum {
 /* What an event answers. */
 typedef struct {
     uint32_t number;
-    uint32_t fault_at, fault_with;                     /* for 2 the pair, else 0 */
+    uint32_t fault_at, fault_with;                     /* for 2 and 18 the pair, else 0 */
     uint32_t rule;                                     /* a letter; '-' when refused */
     uint32_t sent_to;                                  /* the set sent to */
     uint32_t sent;                                     /* how many messages were sent: the ones of that set */
@@ -236,34 +245,34 @@ typedef struct {
 /* What a check, a fresh plot, a resume or a sketch read answers. */
 typedef struct {
     uint32_t number;
-    uint32_t fault_at, fault_with;                     /* for 2 the pair, else 0 */
+    uint32_t fault_at, fault_with;                     /* for 2 and 18 the pair, else 0 */
 } election_checked;
 
 /* What a save or a drawing answers. */
 typedef struct {
     uint32_t number;
-    uint32_t fault_at, fault_with;                     /* for 2 the pair, else 0 */
+    uint32_t fault_at, fault_with;                     /* for 2 and 18 the pair, else 0 */
     uint64_t size;                                     /* the image's, or the drawing's, length in bytes */
 } election_saved;
 
 /* What a look at one station answers. */
 typedef struct {
     uint32_t number;
-    uint32_t fault_at, fault_with;                     /* for 2 the pair, else 0 */
+    uint32_t fault_at, fault_with;                     /* for 2 and 18 the pair, else 0 */
     uint32_t clock, linked, forming;                   /* its clock, N and F */
 } election_station;
 
 /* What a question with one number as its answer answers. */
 typedef struct {
     uint32_t number;
-    uint32_t fault_at, fault_with;                     /* for 2 the pair, else 0 */
+    uint32_t fault_at, fault_with;                     /* for 2 and 18 the pair, else 0 */
     uint32_t value;
 } election_value;
 
 /* What a question for a station's group answers. */
 typedef struct {
     uint32_t number;
-    uint32_t fault_at, fault_with;                     /* for 2 the pair, else 0 */
+    uint32_t fault_at, fault_with;                     /* for 2 and 18 the pair, else 0 */
     uint32_t members, collectors;                      /* the set of the group's stations, and of its collectors */
     uint32_t collector;                                /* the collector if there is exactly one, else 0 */
 } election_group;
@@ -288,7 +297,7 @@ size_t election_drawing_len(uint32_t n);   /* bytes that hold every drawing of n
 /* The fresh plot of n stations, whatever the tables held: clocks 0, no channel up, each station its own collector. */
 election_checked election_fresh(uint32_t n, uint32_t *nodes, size_t nodes_len, uint32_t *channels, size_t channels_len);
 
-/* Refusals 1 and 2 for any tables. */
+/* Refusals 1, 2 and 18 for any tables. */
 election_checked election_check(uint32_t n, const uint32_t *nodes, size_t nodes_len, const uint32_t *channels, size_t channels_len);
 
 /* ---- calls: events. After 0 the tables pass the check; only row u, the cells from u and, for a receipt, the cell received from differ. */

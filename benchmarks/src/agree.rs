@@ -3,7 +3,7 @@
 use crate::plots::Tables;
 use crate::random::Random;
 use crate::seen::Seen;
-use crate::{abi, plain};
+use crate::{abi, plain, times};
 use std::fmt::Debug;
 
 /// Compares both on random histories of so many calls, for each n and seed.
@@ -22,11 +22,12 @@ pub fn run(seeds: u64, calls: usize) -> Seen {
     seen
 }
 
-/// One history, from the fresh plot or from one that is linked and has some messages.
+/// One history, from the fresh plot, from one that is linked and has some messages, or from a mixed one.
 fn history(n: u32, calls: usize, random: &mut Random, seen: &mut Seen) {
-    let mut tables = match random.below(4) {
+    let mut tables = match random.below(5) {
         0 => Tables::linked(n, random.below(9) as u32),
         1 => Tables::linked(n, 8),
+        2 => Tables::mixed(n, random.next()),
         _ => Tables::fresh(n),
     };
     for call in 0..calls {
@@ -38,20 +39,36 @@ fn history(n: u32, calls: usize, random: &mut Random, seen: &mut Seen) {
             questions(&tables, seen);
             images(&tables, random, seen);
             damaged_tables(&tables, random, seen);
+            damaged_times(&tables, random, seen);
         }
     }
 }
 
-/// Changes sound tables to other sound ones, so that rare rules and refusals occur.
+/// Changes tables that pass the check to others that do, so that rare rules and refusals occur.
 fn disturb(tables: &mut Tables, random: &mut Random) {
     let n = tables.n as usize;
     match random.below(8) {
-        0 => tables.row(1 + random.below(n) as u32)[0] = u32::MAX - random.below(4) as u32,
+        0 => {
+            let clock = &mut tables.row(random.up_to(n as u32))[0];
+            *clock = (*clock).max(u32::MAX - random.below(4) as u32);
+        }
         1 => every_height(tables, |height| height[3] = -32_768i32 as u32),
         2 => every_height(tables, |height| height[3] = 32_767),
-        3 => (1..=n as u32).for_each(|u| tables.row(u)[0] = 10),
-        _ => every_height(tables, |height| scramble(n, height, random)),
+        3 => back_to(10, tables),
+        _ => {
+            every_height(tables, |height| scramble(n, height, random));
+            every_clock(tables, |clock| *clock = (*clock).max(LATEST));
+        }
     }
+}
+
+/// No time is later than this one.
+fn back_to(latest: u32, tables: &mut Tables) {
+    every_height(tables, |height| {
+        height[0] = height[0].min(latest);
+        height[4] = height[4].min(latest);
+    });
+    every_clock(tables, |clock| *clock = (*clock).min(latest));
 }
 
 /// Changes every height that is held or sent.
@@ -65,11 +82,25 @@ fn every_height(tables: &mut Tables, change: impl FnMut(&mut [u32])) {
     there.for_each(change);
 }
 
+/// Changes every clock and every stamp.
+fn every_clock(tables: &mut Tables, change: impl FnMut(&mut u32)) {
+    let row = 3 + 7 * tables.n as usize;
+    let clocks = tables.nodes.chunks_exact_mut(row).map(|row| &mut row[0]);
+    let cells = tables.channels.chunks_exact_mut(65);
+    let sent = cells.flat_map(|cell| cell[1..].chunks_exact_mut(8));
+    let there = sent.filter(|message| message[6] != 0);
+    let stamps = there.map(|message| &mut message[7]);
+    clocks.chain(stamps).for_each(change);
+}
+
+/// The latest time of a scrambled height.
+const LATEST: u32 = 5;
+
 /// A level, depth and leader pair out of few.
 fn scramble(n: usize, height: &mut [u32], random: &mut Random) {
     let searching = random.below(4) > 0;
     if searching {
-        height[0] = 5;
+        height[0] = LATEST;
         height[1] = 1 + random.below(n.min(2)) as u32;
         height[2] = random.below(2) as u32;
     } else {
@@ -218,7 +249,7 @@ fn damaged_tables(tables: &Tables, random: &mut Random, seen: &mut Seen) {
             0 => &mut tables.nodes,
             _ => &mut tables.channels,
         };
-        for _ in 0..1 + random.below(3) {
+        for _ in 0..random.up_to(3) {
             let k = random.below(table.len());
             table[k] = random.word();
         }
@@ -228,21 +259,63 @@ fn damaged_tables(tables: &Tables, random: &mut Random, seen: &mut Seen) {
         if random.once_in(20) {
             tables.n = random.word();
         }
-        check(&tables, seen);
-        questions(&tables, seen);
-        let room = random.below(3000);
-        save(&tables, room, seen);
-        if tables.n.wrapping_sub(1) < 16 && tables.channels.len() >= abi::channels_len(tables.n) {
-            event(&mut tables, random, seen);
-        }
+        all_calls(&mut tables, random, seen);
     }
 }
 
-fn check(tables: &Tables, seen: &mut Seen) {
+/// A time at its limit, which is accepted, and one beyond it, which is not; then up to three about their limits, now and then with other damage.
+fn damaged_times(tables: &Tables, random: &mut Random, seen: &mut Seen) {
+    let (times, image) = (times::of(tables), tables.image());
+    let any = |random: &mut Random| &times[random.below(times.len())];
+    let one = any(random);
+    for (beyond, number) in [(0, 0), (1, 18)] {
+        let Some(word) = one.limit.checked_add(beyond) else {
+            continue;
+        };
+        let (mut tables, mut image) = (tables.clone(), image.clone());
+        one.put(word, &mut tables, &mut image);
+        let what = || format!("a time {beyond} above its limit in {tables:?}");
+        same(what, &check(&tables, seen), &number);
+        timed(&mut tables, &image, random, seen);
+    }
+    let (mut tables, mut image) = (tables.clone(), image);
+    for _ in 0..random.up_to(3) {
+        let time = any(random);
+        let word = time.limit.wrapping_add(random.below(4) as u32);
+        time.put(word.wrapping_sub(1), &mut tables, &mut image);
+    }
+    if random.once_in(3) {
+        let k = random.below(tables.nodes.len());
+        tables.nodes[k] = random.word();
+        damage(&mut image, random);
+    }
+    timed(&mut tables, &image, random, seen);
+}
+
+/// All calls on tables and on their image.
+fn timed(tables: &mut Tables, image: &[u8], random: &mut Random, seen: &mut Seen) {
+    restore(tables.n, image, random, seen);
+    look(tables.n, image, random, seen);
+    all_calls(tables, random, seen);
+}
+
+/// A check, the questions, a save and a step of tables that may be damaged.
+fn all_calls(tables: &mut Tables, random: &mut Random, seen: &mut Seen) {
+    check(tables, seen);
+    questions(tables, seen);
+    save(tables, random.below(3000), seen);
+    if tables.n.wrapping_sub(1) < 16 && tables.channels.len() >= abi::channels_len(tables.n) {
+        event(tables, random, seen);
+    }
+}
+
+/// The number of a check.
+fn check(tables: &Tables, seen: &mut Seen) -> u32 {
     let library = abi::check(tables.n, &tables.nodes, &tables.channels);
     let plain = plain::check(tables.n, &tables.nodes, &tables.channels);
     same(|| format!("check of {tables:?}"), &library, &plain);
     seen.number(library.number);
+    library.number
 }
 
 /// Quiet, groups, and the group of every number.

@@ -42,36 +42,39 @@ pub fn svg(rows: &[Row]) -> String {
 
 /// The lines of the chart.
 fn lines(rows: &[Row]) -> Vec<Line> {
-    let line = |name, colour, dashes, waiting, of: fn(&Row) -> f64| Line {
+    let (full, empty, mixed) = (Fill::Linked(8), Fill::Linked(0), Fill::Mixed);
+    let library = |name, dashes, fill| Line {
         name,
-        colour,
+        colour: "#b03a2e",
         dashes,
-        points: points(rows, waiting, of),
+        points: points(rows, fill, |row| row.times.library),
+    };
+    let plain = |name, dashes, fill| Line {
+        name,
+        colour: "#1f618d",
+        dashes,
+        points: points(rows, fill, |row| row.times.plain),
     };
     vec![
-        line("library, full", "#b03a2e", "none", 8, |row| {
-            row.times.library
-        }),
-        line("plain Rust, full", "#1f618d", "none", 8, |row| {
-            row.times.plain
-        }),
-        line("library, empty", "#b03a2e", "6 4", 0, |row| {
-            row.times.library
-        }),
-        line("plain Rust, empty", "#1f618d", "6 4", 0, |row| {
-            row.times.plain
-        }),
-        line("floor: one pass", "#555555", "2 3", 8, |row| {
-            row.times.floor
-        }),
+        library("library, full", "none", full),
+        plain("plain Rust, full", "none", full),
+        library("library, mixed", "12 3", mixed),
+        plain("plain Rust, mixed", "12 3", mixed),
+        library("library, empty", "6 4", empty),
+        plain("plain Rust, empty", "6 4", empty),
+        Line {
+            name: "floor: one pass",
+            colour: "#555555",
+            dashes: "2 3",
+            points: points(rows, full, |row| row.times.floor),
+        },
     ]
 }
 
 /// The cost of up and down for each n; for n = 1 of the refusal.
-fn points(rows: &[Row], waiting: u32, of: fn(&Row) -> f64) -> Vec<(u32, f64)> {
+fn points(rows: &[Row], fill: Fill, of: fn(&Row) -> f64) -> Vec<(u32, f64)> {
     let wanted = |row: &&Row| {
-        row.case.kind == Kind::Refusal
-            || row.case.kind == Kind::UpDown && row.case.fill == Fill::Linked(waiting)
+        row.case.kind == Kind::Refusal || row.case.kind == Kind::UpDown && row.case.fill == fill
     };
     let rows = rows.iter().filter(wanted);
     rows.map(|row| (row.case.n, of(row))).collect()

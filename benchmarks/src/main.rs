@@ -9,6 +9,7 @@ mod agree;
 mod chart;
 mod floor;
 mod measure;
+mod mixed;
 mod plain;
 mod plots;
 mod random;
@@ -16,6 +17,7 @@ mod report;
 mod rows;
 mod seen;
 mod stack;
+mod times;
 
 use std::time::Instant;
 

@@ -42,9 +42,10 @@ impl Samples {
     }
 }
 
-/// Times three sides in turn. A run of the library or of plain Rust makes `calls` calls; one of the floor is one pass.
+/// Times three sides in turn. A run takes all `plots`: `calls` calls of the library or of plain Rust for each, one pass of the floor.
 pub fn sides(
     batches: usize,
+    plots: usize,
     calls: usize,
     mut library: impl FnMut(),
     mut plain: impl FnMut(),
@@ -52,20 +53,17 @@ pub fn sides(
 ) -> Samples {
     let runs = runs_in_a_batch(&mut library).min(runs_in_a_batch(&mut plain));
     let passes = runs_in_a_batch(&mut floor);
+    let (each, all) = (plots as f64, (plots * calls) as f64);
     let mut samples = Samples::default();
     for batch in 0..batches {
-        let library = || {
-            samples
-                .library
-                .push(time(runs, &mut library) / calls as f64)
-        };
-        let plain = || samples.plain.push(time(runs, &mut plain) / calls as f64);
+        let library = || samples.library.push(time(runs, &mut library) / all);
+        let plain = || samples.plain.push(time(runs, &mut plain) / all);
         if batch % 2 == 0 {
             in_turn(library, plain);
         } else {
             in_turn(plain, library);
         }
-        samples.floor.push(time(passes, &mut floor));
+        samples.floor.push(time(passes, &mut floor) / each);
     }
     samples
 }

@@ -1,4 +1,4 @@
-//! The plots that are measured: fresh ones, and all-linked ones with some messages on every channel.
+//! The plots that are measured: fresh ones, all-linked ones with some messages on every channel, and those of `mixed`.
 
 use crate::abi;
 
@@ -66,8 +66,13 @@ impl Tables {
         row[0] = CLOCK;
         row[1] = ((1 << n) - 1) & !(1 << (u - 1));
         for k in 1..=n {
-            row[3 + 7 * (k as usize - 1)..][..7].copy_from_slice(&height(k));
+            self.hold(u, k, &height(k));
         }
+    }
+
+    /// Station u holds this height of k.
+    pub fn hold(&mut self, u: u32, k: u32, height: &[u32; 7]) {
+        self.row(u)[3 + 7 * (k as usize - 1)..][..7].copy_from_slice(height);
     }
 
     /// Puts messages on channel u to v.

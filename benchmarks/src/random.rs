@@ -20,6 +20,11 @@ impl Random {
         (self.next() % end as u64) as usize
     }
 
+    /// From 1 to the end.
+    pub fn up_to(&mut self, end: u32) -> u32 {
+        1 + self.below(end as usize) as u32
+    }
+
     /// Once in so many times.
     pub fn once_in(&mut self, times: usize) -> bool {
         self.below(times) == 0

@@ -28,6 +28,7 @@ fn name(row: &Row) -> String {
         Kind::Refusal => "step refused (3)",
         Kind::UpDown => "up, down",
         Kind::Receipt => "receipt",
+        Kind::Check => "check",
         Kind::Save => "save",
         Kind::Restore => "restore",
         Kind::ReadNode => "read_node",
@@ -41,6 +42,7 @@ fn name(row: &Row) -> String {
         Fill::Linked(1) => "1 waiting",
         Fill::Linked(8) => "full",
         Fill::Linked(_) => "half full",
+        Fill::Mixed => "mixed",
     };
     format!("{kind}, n = {}, {fill}", row.case.n)
 }

@@ -11,6 +11,7 @@ pub enum Kind {
     Refusal,
     UpDown,
     Receipt,
+    Check,
     Save,
     Restore,
     ReadNode,
@@ -19,14 +20,15 @@ pub enum Kind {
     GroupOf,
 }
 
-/// How full the channels are.
+/// What the plots hold.
 #[derive(Clone, Copy, PartialEq, Eq)]
 pub enum Fill {
     Fresh,
     Linked(u32),
+    Mixed,
 }
 
-/// What is called, for how many stations, on which channels.
+/// What is called, for how many stations, on which plots.
 #[derive(Clone, Copy)]
 pub struct Case {
     pub kind: Kind,
@@ -58,7 +60,7 @@ pub fn measure(batches: usize) -> Vec<Row> {
     }
     let rows = cases.iter().zip(samples).map(|(case, samples)| Row {
         case: *case,
-        words: case.tables().words(),
+        words: case.plots()[0].words(),
         times: samples.times(),
     });
     rows.collect()
@@ -70,46 +72,74 @@ fn cases() -> Vec<Case> {
     let mut cases = vec![case(Kind::Refusal, 1, Fill::Fresh)];
     for n in [2, 4, 8, 16] {
         cases.extend([0, 4, 8].map(|waiting| case(Kind::UpDown, n, Fill::Linked(waiting))));
+        cases.push(case(Kind::UpDown, n, Fill::Mixed));
         cases.extend([1, 4, 8].map(|waiting| case(Kind::Receipt, n, Fill::Linked(waiting))));
+        cases.push(case(Kind::Receipt, n, Fill::Mixed));
+    }
+    for n in [4, 8, 16] {
+        cases.extend([Fill::Linked(4), Fill::Mixed].map(|fill| case(Kind::Check, n, fill)));
     }
     for kind in [Kind::Quiet, Kind::Groups, Kind::GroupOf] {
-        cases.push(case(kind, 1, Fill::Fresh));
-        for n in [4, 16] {
-            cases.extend([Fill::Fresh, Fill::Linked(0)].map(|fill| case(kind, n, fill)));
-        }
+        cases.extend(fills(0).map(|(n, fill)| case(kind, n, fill)));
     }
     for kind in [Kind::Save, Kind::Restore, Kind::ReadNode] {
-        cases.push(case(kind, 1, Fill::Fresh));
-        for n in [4, 16] {
-            cases.extend([Fill::Fresh, Fill::Linked(8)].map(|fill| case(kind, n, fill)));
-        }
+        cases.extend(fills(8).map(|(n, fill)| case(kind, n, fill)));
     }
     cases
 }
 
+/// The plots for a question or an image, with so many waiting where all are linked.
+fn fills(waiting: u32) -> [(u32, Fill); 8] {
+    let linked = Fill::Linked(waiting);
+    [
+        (1, Fill::Fresh),
+        (4, Fill::Fresh),
+        (4, linked),
+        (4, Fill::Mixed),
+        (8, Fill::Mixed),
+        (16, Fill::Fresh),
+        (16, linked),
+        (16, Fill::Mixed),
+    ]
+}
+
 impl Case {
-    /// The plot that is measured.
-    fn tables(self) -> Tables {
+    /// The plots that are taken in turn: one, or so many mixed ones that the processor cannot learn by heart which jumps they take.
+    fn plots(self) -> Vec<Tables> {
         match self.fill {
-            Fill::Fresh => Tables::fresh(self.n),
-            Fill::Linked(waiting) => Tables::linked(self.n, waiting),
+            Fill::Fresh => vec![Tables::fresh(self.n)],
+            Fill::Linked(waiting) => vec![Tables::linked(self.n, waiting)],
+            Fill::Mixed => {
+                let seeds = 0..u64::from(8192 / (self.n * self.n));
+                seeds.map(|seed| Tables::mixed(self.n, seed)).collect()
+            }
+        }
+    }
+
+    /// A batch of mixed plots takes all of them, so fewer will do.
+    fn batches(self, batches: usize) -> usize {
+        if self.fill == Fill::Mixed {
+            batches / 4
+        } else {
+            batches
         }
     }
 }
 
 /// Measures one case.
 fn one_round(case: Case, batches: usize) -> Samples {
-    let tables = case.tables();
+    let (plots, batches) = (case.plots(), case.batches(batches));
     match case.kind {
-        Kind::Refusal => refusal(&tables, batches),
-        Kind::UpDown => up_down(&tables, batches),
-        Kind::Receipt => receipt(&tables, batches),
-        Kind::Save => save(&tables, batches),
-        Kind::Restore => restore(&tables, batches),
-        Kind::ReadNode => read_node(&tables, batches),
-        Kind::Quiet => question(abi::quiet, plain::quiet, &tables, batches),
-        Kind::Groups => question(abi::groups, plain::groups, &tables, batches),
-        Kind::GroupOf => group_of(&tables, batches),
+        Kind::Refusal => refusal(&plots, batches),
+        Kind::UpDown => up_down(&plots, batches),
+        Kind::Receipt => receipt(&plots, batches),
+        Kind::Check => check(&plots, batches),
+        Kind::Save => save(&plots, batches),
+        Kind::Restore => restore(&plots, batches),
+        Kind::ReadNode => read_node(&plots, batches),
+        Kind::Quiet => question(abi::quiet, plain::quiet, &plots, batches),
+        Kind::Groups => question(abi::groups, plain::groups, &plots, batches),
+        Kind::GroupOf => group_of(&plots, batches),
     }
 }
 
@@ -126,161 +156,231 @@ fn event(f: Event, u: u32, v: u32, tables: &mut Tables, number: u32) {
     assert_eq!(black_box(answer).number, number);
 }
 
-/// One pass over both tables.
-fn pass(tables: &Tables) -> impl FnMut() + '_ {
-    || {
-        black_box(floor::pass(
-            black_box(&tables.nodes),
-            black_box(&tables.channels),
-        ));
+/// One pass over both tables of every plot.
+fn pass(plots: &[Tables]) -> impl FnMut() + '_ {
+    move || {
+        for tables in plots {
+            black_box(floor::pass(
+                black_box(&tables.nodes),
+                black_box(&tables.channels),
+            ));
+        }
     }
 }
 
 /// For n = 1 no event is possible: the check, then refusal 3.
-fn refusal(tables: &Tables, batches: usize) -> Samples {
-    let (mut ours, mut theirs) = (tables.clone(), tables.clone());
+fn refusal(plots: &[Tables], batches: usize) -> Samples {
+    let (mut ours, mut theirs) = (plots.to_vec(), plots.to_vec());
     sides(
         batches,
+        plots.len(),
         1,
-        || event(abi::up, 1, 1, &mut ours, 3),
-        || event(plain::up, 1, 1, &mut theirs, 3),
-        pass(tables),
+        || {
+            for tables in &mut ours {
+                event(abi::up, 1, 1, tables, 3);
+            }
+        },
+        || {
+            for tables in &mut theirs {
+                event(plain::up, 1, 1, tables, 3);
+            }
+        },
+        pass(plots),
     )
 }
 
 /// Channel 1 to 2 goes down and up again.
-fn up_down(tables: &Tables, batches: usize) -> Samples {
-    let (mut ours, mut theirs) = (tables.clone(), tables.clone());
+fn up_down(plots: &[Tables], batches: usize) -> Samples {
+    let (mut ours, mut theirs) = (plots.to_vec(), plots.to_vec());
     let samples = sides(
         batches,
+        plots.len(),
         2,
         || {
-            event(abi::down, 1, 2, &mut ours, 0);
-            event(abi::up, 1, 2, &mut ours, 0);
+            for tables in &mut ours {
+                event(abi::down, 1, 2, tables, 0);
+            }
+            for tables in &mut ours {
+                event(abi::up, 1, 2, tables, 0);
+            }
         },
         || {
-            event(plain::down, 1, 2, &mut theirs, 0);
-            event(plain::up, 1, 2, &mut theirs, 0);
+            for tables in &mut theirs {
+                event(plain::down, 1, 2, tables, 0);
+            }
+            for tables in &mut theirs {
+                event(plain::up, 1, 2, tables, 0);
+            }
         },
-        pass(tables),
+        pass(plots),
     );
     assert_eq!(ours, theirs);
     samples
 }
 
 /// All messages of channel 1 to 2 are received, then put back by a copy of their words.
-fn receipt(tables: &Tables, batches: usize) -> Samples {
-    let (mut ours, mut theirs) = (tables.clone(), tables.clone());
-    let waiting = ours.cell(1, 2)[0] as usize;
-    let words = ours.cell(1, 2)[..1 + 8 * waiting].to_vec();
-    let run = |f: Event, tables: &mut Tables| {
-        (0..waiting).for_each(|_| event(f, 1, 2, tables, 0));
-        tables.cell(1, 2)[..words.len()].copy_from_slice(&words);
+fn receipt(plots: &[Tables], batches: usize) -> Samples {
+    let (mut ours, mut theirs) = (plots.to_vec(), plots.to_vec());
+    let waiting = ours[0].cell(1, 2)[0] as usize;
+    let words = |tables: &mut Tables| tables.cell(1, 2)[..1 + 8 * waiting].to_vec();
+    let words: Vec<Vec<u32>> = ours.iter_mut().map(words).collect();
+    let run = |f: Event, plots: &mut [Tables]| {
+        for _ in 0..waiting {
+            for tables in &mut *plots {
+                event(f, 1, 2, tables, 0);
+            }
+        }
+        for (tables, words) in plots.iter_mut().zip(&words) {
+            tables.cell(1, 2)[..words.len()].copy_from_slice(words);
+        }
     };
     let samples = sides(
         batches,
+        plots.len(),
         waiting,
         || run(abi::receive, &mut ours),
         || run(plain::receive, &mut theirs),
-        pass(tables),
+        pass(plots),
     );
     assert_eq!(ours, theirs);
     samples
 }
 
+/// A check alone.
+fn check(plots: &[Tables], batches: usize) -> Samples {
+    let ask = |f: fn(u32, &[u32], &[u32]) -> abi::Checked| {
+        for tables in plots {
+            let (nodes, channels) = (black_box(&tables.nodes), black_box(&tables.channels));
+            assert_eq!(f(black_box(tables.n), nodes, channels).number, 0);
+        }
+    };
+    sides(
+        batches,
+        plots.len(),
+        1,
+        || ask(abi::check),
+        || ask(plain::check),
+        pass(plots),
+    )
+}
+
 /// Times a save.
-fn save(tables: &Tables, batches: usize) -> Samples {
-    let room = abi::image_len(tables.n);
+fn save(plots: &[Tables], batches: usize) -> Samples {
+    let room = abi::image_len(plots[0].n);
     let (mut ours, mut theirs) = (vec![0; room], vec![0; room]);
-    let n = tables.n;
     let samples = sides(
         batches,
+        plots.len(),
         1,
         || {
-            let (nodes, channels) = (black_box(&tables.nodes), black_box(&tables.channels));
-            assert_eq!(
-                abi::save(black_box(n), nodes, channels, black_box(&mut ours)).number,
-                0
-            );
+            for tables in plots {
+                let (nodes, channels) = (black_box(&tables.nodes), black_box(&tables.channels));
+                let done = abi::save(black_box(tables.n), nodes, channels, black_box(&mut ours));
+                assert_eq!(done.number, 0);
+            }
         },
         || {
-            let (nodes, channels) = (black_box(&tables.nodes), black_box(&tables.channels));
-            assert_eq!(
-                plain::save(black_box(n), nodes, channels, black_box(&mut theirs)).number,
-                0
-            );
+            for tables in plots {
+                let (nodes, channels) = (black_box(&tables.nodes), black_box(&tables.channels));
+                let done =
+                    plain::save(black_box(tables.n), nodes, channels, black_box(&mut theirs));
+                assert_eq!(done.number, 0);
+            }
         },
-        pass(tables),
+        pass(plots),
     );
     assert_eq!(ours, theirs);
     samples
 }
 
 /// Times a resume.
-fn restore(tables: &Tables, batches: usize) -> Samples {
-    let image = tables.image();
-    let (mut ours, mut theirs) = (tables.clone(), tables.clone());
+fn restore(plots: &[Tables], batches: usize) -> Samples {
+    let images: Vec<Vec<u8>> = plots.iter().map(Tables::image).collect();
+    let (mut ours, mut theirs) = (plots.to_vec(), plots.to_vec());
     let samples = sides(
         batches,
+        plots.len(),
         1,
         || {
-            let done = abi::restore(black_box(&image), &mut ours.nodes, &mut ours.channels);
-            assert_eq!(black_box(done).number, 0);
+            for (image, tables) in images.iter().zip(&mut ours) {
+                let done = abi::restore(black_box(image), &mut tables.nodes, &mut tables.channels);
+                assert_eq!(black_box(done).number, 0);
+            }
         },
         || {
-            let done = plain::restore(black_box(&image), &mut theirs.nodes, &mut theirs.channels);
-            assert_eq!(black_box(done).number, 0);
+            for (image, tables) in images.iter().zip(&mut theirs) {
+                let done =
+                    plain::restore(black_box(image), &mut tables.nodes, &mut tables.channels);
+                assert_eq!(black_box(done).number, 0);
+            }
         },
-        pass(tables),
+        pass(plots),
     );
     assert_eq!(ours, theirs);
     samples
 }
 
 /// A look at the last station.
-fn read_node(tables: &Tables, batches: usize) -> Samples {
-    let image = tables.image();
-    let n = tables.n;
+fn read_node(plots: &[Tables], batches: usize) -> Samples {
+    let images: Vec<Vec<u8>> = plots.iter().map(Tables::image).collect();
+    let n = plots[0].n;
     let place = u64::from(32 + (n - 1) * (64 + 96 * n));
     let (mut ours, mut theirs) = (vec![0; abi::row_len(n)], vec![0; abi::row_len(n)]);
     let samples = sides(
         batches,
+        plots.len(),
         1,
         || {
-            let done = abi::read_node(black_box(&image), n, place, &mut ours);
-            assert_eq!(black_box(done).number, 0);
+            for image in &images {
+                let done = abi::read_node(black_box(image), n, place, &mut ours);
+                assert_eq!(black_box(done).number, 0);
+            }
         },
         || {
-            let done = plain::read_node(black_box(&image), n, place, &mut theirs);
-            assert_eq!(black_box(done).number, 0);
+            for image in &images {
+                let done = plain::read_node(black_box(image), n, place, &mut theirs);
+                assert_eq!(black_box(done).number, 0);
+            }
         },
-        pass(tables),
+        pass(plots),
     );
     assert_eq!(ours, theirs);
     samples
 }
 
 /// A question that answers one value.
-fn question(ours: Question, theirs: Question, tables: &Tables, batches: usize) -> Samples {
+fn question(ours: Question, theirs: Question, plots: &[Tables], batches: usize) -> Samples {
     let ask = |f: Question| {
-        let (nodes, channels) = (black_box(&tables.nodes), black_box(&tables.channels));
-        assert_eq!(f(black_box(tables.n), nodes, channels).number, 0);
-    };
-    sides(batches, 1, || ask(ours), || ask(theirs), pass(tables))
-}
-
-/// The group of the last station.
-fn group_of(tables: &Tables, batches: usize) -> Samples {
-    let ask = |f: fn(u32, u32, &[u32], &[u32]) -> abi::Group| {
-        let (nodes, channels) = (black_box(&tables.nodes), black_box(&tables.channels));
-        let n = black_box(tables.n);
-        assert_eq!(f(n, n, nodes, channels).number, 0);
+        for tables in plots {
+            let (nodes, channels) = (black_box(&tables.nodes), black_box(&tables.channels));
+            assert_eq!(f(black_box(tables.n), nodes, channels).number, 0);
+        }
     };
     sides(
         batches,
+        plots.len(),
+        1,
+        || ask(ours),
+        || ask(theirs),
+        pass(plots),
+    )
+}
+
+/// The group of the last station.
+fn group_of(plots: &[Tables], batches: usize) -> Samples {
+    let ask = |f: fn(u32, u32, &[u32], &[u32]) -> abi::Group| {
+        for tables in plots {
+            let (nodes, channels) = (black_box(&tables.nodes), black_box(&tables.channels));
+            let n = black_box(tables.n);
+            assert_eq!(f(n, n, nodes, channels).number, 0);
+        }
+    };
+    sides(
+        batches,
+        plots.len(),
         1,
         || ask(abi::group_of),
         || ask(plain::group_of),
-        pass(tables),
+        pass(plots),
     )
 }

@@ -4,7 +4,7 @@
 #[derive(Default)]
 pub struct Seen {
     pub calls: usize,
-    pub numbers: [usize; 16],
+    pub numbers: [usize; 19],
     pub rules: Vec<(char, usize)>,
 }
 
@@ -22,9 +22,10 @@ impl Seen {
         }
     }
 
-    /// Numbers 0 to 14, all nine rules and a refusal occurred.
+    /// Numbers 0 to 14 and 18, all nine rules and a refusal occurred.
     pub fn is_whole(&self) -> bool {
-        self.numbers[..15].iter().all(|&times| times > 0) && self.rules.len() == 10
+        let mut wanted = (0..15).chain([18]);
+        wanted.all(|k: usize| self.numbers[k] > 0) && self.rules.len() == 10
     }
 
     /// One line on what was seen.

@@ -45,6 +45,13 @@ pub enum Refusal {
     SketchForm,
     /// 17: a sketch links to 0, above n, a station to itself, or two stations twice, in either order.
     SketchLink,
+    /// 18: tables or image break no rule but hold a time later than its clock or stamp, first at this pair of stations.
+    Untimely {
+        /// The station against whose clock the times are held.
+        at: u32,
+        /// The station that the view or the channel is of; `at` itself for its own height.
+        with: u32,
+    },
     /// A number that this crate does not know, from a newer library.
     Other(u32),
 }
@@ -69,6 +76,7 @@ impl Refusal {
             Refusal::Room => 14,
             Refusal::SketchForm => 16,
             Refusal::SketchLink => 17,
+            Refusal::Untimely { .. } => 18,
             Refusal::Other(number) => number,
         }
     }
@@ -93,6 +101,7 @@ impl Refusal {
             14 => Refusal::Room,
             16 => Refusal::SketchForm,
             17 => Refusal::SketchLink,
+            18 => Refusal::Untimely { at, with },
             other => Refusal::Other(other),
         })
     }
@@ -117,6 +126,12 @@ impl fmt::Display for Refusal {
             Refusal::Room => "the room is too small",
             Refusal::SketchForm => "the text is no sketch of 1 to 16 stations",
             Refusal::SketchLink => "the sketch has a link to no station, to itself, or named twice",
+            Refusal::Untimely { at, with } => {
+                return write!(
+                    f,
+                    "18: a time is later than its clock or stamp at {at} {with}"
+                )
+            }
             Refusal::Other(_) => "a number that this crate does not know",
         };
         write!(f, "{}: {why}", self.number())
@@ -421,7 +436,7 @@ mod tests {
     /// A newer library may answer a number or a letter that is not known here.
     #[test]
     fn unknown_numbers_and_letters() {
-        for number in [15, 18, u32::MAX] {
+        for number in [15, 19, u32::MAX] {
             let newer = ffi::Answer { number, ..DONE };
             assert_eq!(Step::of(newer), Err(Refusal::Other(number)));
             assert_eq!(Refusal::Other(number).number(), number);
@@ -460,8 +475,15 @@ mod tests {
         for number in 1..=20 {
             let refusal = Refusal::check(number, 1, 2).unwrap_err();
             assert_eq!(refusal.number(), number);
-            let known = (1..=17).contains(&number) && number != 15;
+            let known = (1..=18).contains(&number) && number != 15;
             assert_eq!(refusal != Refusal::Other(number), known);
+        }
+        let (at, with) = (1, 2);
+        for (number, paired) in [
+            (2, Refusal::Fault { at, with }),
+            (18, Refusal::Untimely { at, with }),
+        ] {
+            assert_eq!(Refusal::check(number, at, with), Err(paired));
         }
     }
 }

@@ -251,7 +251,7 @@ pub fn fresh(n: u32, nodes: &mut [u32], channels: &mut [u32]) -> Checked {
     unsafe { election_fresh(n, a, nodes.len(), b, channels.len()) }
 }
 
-/// Refusals 1 and 2.
+/// Refusals 1, 2 and 18.
 pub fn check(n: u32, nodes: &[u32], channels: &[u32]) -> Checked {
     let (a, b) = (nodes.as_ptr(), channels.as_ptr());
     unsafe { election_check(n, a, nodes.len(), b, channels.len()) }

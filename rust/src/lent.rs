@@ -106,7 +106,7 @@ pub fn fresh(n: u32, nodes: &mut [u32], channels: &mut [u32]) -> Result<(), Refu
 ///
 /// # Errors
 ///
-/// [`Refusal::Sizes`], then [`Refusal::Fault`].
+/// The first of [`Refusal::Sizes`], [`Refusal::Fault`], [`Refusal::Untimely`].
 pub fn check(n: u32, nodes: &[u32], channels: &[u32]) -> Result<(), Refusal> {
     checked(ffi::check(n, nodes, channels))
 }
@@ -115,8 +115,8 @@ pub fn check(n: u32, nodes: &[u32], channels: &[u32]) -> Result<(), Refusal> {
 ///
 /// # Errors
 ///
-/// The first of [`Refusal::Sizes`], [`Fault`](Refusal::Fault), [`Station`](Refusal::Station), [`AlreadyUp`](Refusal::AlreadyUp),
-/// [`ClockEnd`](Refusal::ClockEnd).
+/// The first of [`Refusal::Sizes`], [`Fault`](Refusal::Fault), [`Untimely`](Refusal::Untimely), [`Station`](Refusal::Station),
+/// [`AlreadyUp`](Refusal::AlreadyUp), [`ClockEnd`](Refusal::ClockEnd).
 pub fn up(
     n: u32,
     u: u32,
@@ -131,8 +131,8 @@ pub fn up(
 ///
 /// # Errors
 ///
-/// The first of [`Refusal::Sizes`], [`Fault`](Refusal::Fault), [`Station`](Refusal::Station), [`AlreadyDown`](Refusal::AlreadyDown),
-/// [`ClockEnd`](Refusal::ClockEnd), [`ChannelFull`](Refusal::ChannelFull).
+/// The first of [`Refusal::Sizes`], [`Fault`](Refusal::Fault), [`Untimely`](Refusal::Untimely), [`Station`](Refusal::Station),
+/// [`AlreadyDown`](Refusal::AlreadyDown), [`ClockEnd`](Refusal::ClockEnd), [`ChannelFull`](Refusal::ChannelFull).
 pub fn down(
     n: u32,
     u: u32,
@@ -147,8 +147,9 @@ pub fn down(
 ///
 /// # Errors
 ///
-/// The first of [`Refusal::Sizes`], [`Fault`](Refusal::Fault), [`Station`](Refusal::Station), [`NoMessage`](Refusal::NoMessage),
-/// [`ClockEnd`](Refusal::ClockEnd), [`DepthEnd`](Refusal::DepthEnd), [`ChannelFull`](Refusal::ChannelFull). The message then stays.
+/// The first of [`Refusal::Sizes`], [`Fault`](Refusal::Fault), [`Untimely`](Refusal::Untimely), [`Station`](Refusal::Station),
+/// [`NoMessage`](Refusal::NoMessage), [`ClockEnd`](Refusal::ClockEnd), [`DepthEnd`](Refusal::DepthEnd),
+/// [`ChannelFull`](Refusal::ChannelFull). The message then stays.
 pub fn receive(
     n: u32,
     from: u32,
@@ -163,7 +164,7 @@ pub fn receive(
 ///
 /// # Errors
 ///
-/// [`Refusal::Sizes`], then [`Refusal::Fault`].
+/// Those of [`check`].
 pub fn quiet(n: u32, nodes: &[u32], channels: &[u32]) -> Result<bool, Refusal> {
     Ok(value(ffi::quiet(n, nodes, channels))? != 0)
 }
@@ -172,7 +173,7 @@ pub fn quiet(n: u32, nodes: &[u32], channels: &[u32]) -> Result<bool, Refusal> {
 ///
 /// # Errors
 ///
-/// [`Refusal::Sizes`], then [`Refusal::Fault`].
+/// Those of [`check`].
 pub fn groups(n: u32, nodes: &[u32], channels: &[u32]) -> Result<Stations, Refusal> {
     Ok(Stations::from_word(value(ffi::groups(n, nodes, channels))?))
 }
@@ -181,7 +182,7 @@ pub fn groups(n: u32, nodes: &[u32], channels: &[u32]) -> Result<Stations, Refus
 ///
 /// # Errors
 ///
-/// The first of [`Refusal::Sizes`], [`Refusal::Fault`], [`Refusal::Station`].
+/// Those of [`check`], then [`Refusal::Station`].
 pub fn group_of(n: u32, u: u32, nodes: &[u32], channels: &[u32]) -> Result<Group, Refusal> {
     Group::of(ffi::group_of(n, u, nodes, channels))
 }
@@ -190,7 +191,7 @@ pub fn group_of(n: u32, u: u32, nodes: &[u32], channels: &[u32]) -> Result<Group
 ///
 /// # Errors
 ///
-/// The first of [`Refusal::Sizes`], [`Refusal::Fault`], [`Refusal::Room`].
+/// Those of [`check`], then [`Refusal::Room`].
 pub fn save(n: u32, nodes: &[u32], channels: &[u32], out: &mut [u8]) -> Result<usize, Refusal> {
     saved(ffi::save(n, nodes, channels, out))
 }
@@ -210,7 +211,7 @@ pub fn image_stations(image: &[u8]) -> Result<u32, Refusal> {
 ///
 /// The first of [`Refusal::ImageShort`], [`ImageHeader`](Refusal::ImageHeader), [`Sizes`](Refusal::Sizes); then, on the walk over the
 /// records, [`Fault`](Refusal::Fault) for a count above 8 or [`ImageEnd`](Refusal::ImageEnd), whichever comes first; then
-/// [`ImageEnd`](Refusal::ImageEnd) for what is left over, and [`Fault`](Refusal::Fault) for the contents.
+/// [`ImageEnd`](Refusal::ImageEnd) for what is left over, and [`Fault`](Refusal::Fault) or [`Untimely`](Refusal::Untimely) for the contents.
 pub fn restore(image: &[u8], nodes: &mut [u32], channels: &mut [u32]) -> Result<(), Refusal> {
     checked(ffi::restore(image, nodes, channels))
 }
@@ -241,7 +242,7 @@ pub fn read_station<'r>(
 ///
 /// # Errors
 ///
-/// The first of [`Refusal::Sizes`], [`Refusal::Fault`], [`Refusal::Room`]; with room of [`drawing_len`] never the last.
+/// Those of [`check`], then [`Refusal::Room`]; with room of [`drawing_len`] never the last.
 pub fn draw(n: u32, nodes: &[u32], channels: &[u32], out: &mut [u8]) -> Result<usize, Refusal> {
     saved(ffi::draw(n, nodes, channels, out))
 }

@@ -124,7 +124,7 @@ impl Plot {
     ///
     /// # Errors
     ///
-    /// None: the tables of a `Plot` are sound, and the room is made for them. A newer library may know one.
+    /// None: the tables of a `Plot` pass the check, and the room is made for them. A newer library may know one.
     pub fn save(&self) -> Result<Vec<u8>, Refusal> {
         let mut out = vec![0; lent::image_len(self.n)];
         let size = lent::save(self.n, &self.nodes, &self.channels, &mut out)?;
@@ -145,7 +145,7 @@ impl Plot {
     ///
     /// # Errors
     ///
-    /// None: the tables of a `Plot` are sound, and the room is made for them. A newer library may know one.
+    /// None: the tables of a `Plot` pass the check, and the room is made for them. A newer library may know one.
     pub fn draw(&self) -> Result<String, Refusal> {
         let mut out = vec![0; lent::drawing_len(self.n)];
         let size = lent::draw(self.n, &self.nodes, &self.channels, &mut out)?;
@@ -203,7 +203,7 @@ impl Plot {
     ///
     /// # Errors
     ///
-    /// None of this library's: the tables of a `Plot` are sound.
+    /// None of this library's: the tables of a `Plot` pass the check.
     pub fn quiet(&self) -> Result<bool, Refusal> {
         self.view().quiet()
     }
@@ -212,7 +212,7 @@ impl Plot {
     ///
     /// # Errors
     ///
-    /// None of this library's: the tables of a `Plot` are sound.
+    /// None of this library's: the tables of a `Plot` pass the check.
     pub fn groups(&self) -> Result<Stations, Refusal> {
         self.view().groups()
     }

@@ -94,7 +94,7 @@ impl<'a> View<'a> {
     ///
     /// # Errors
     ///
-    /// [`Refusal::Fault`].
+    /// [`Refusal::Fault`], then [`Refusal::Untimely`].
     pub fn check(self) -> Result<(), Refusal> {
         lent::check(self.n, self.nodes, self.channels)
     }
@@ -103,7 +103,7 @@ impl<'a> View<'a> {
     ///
     /// # Errors
     ///
-    /// [`Refusal::Fault`].
+    /// [`Refusal::Fault`], then [`Refusal::Untimely`].
     pub fn quiet(self) -> Result<bool, Refusal> {
         lent::quiet(self.n, self.nodes, self.channels)
     }
@@ -112,7 +112,7 @@ impl<'a> View<'a> {
     ///
     /// # Errors
     ///
-    /// [`Refusal::Fault`].
+    /// [`Refusal::Fault`], then [`Refusal::Untimely`].
     pub fn groups(self) -> Result<Stations, Refusal> {
         lent::groups(self.n, self.nodes, self.channels)
     }
@@ -121,7 +121,7 @@ impl<'a> View<'a> {
     ///
     /// # Errors
     ///
-    /// [`Refusal::Fault`], then [`Refusal::Station`].
+    /// The first of [`Refusal::Fault`], [`Refusal::Untimely`], [`Refusal::Station`].
     pub fn group_of(self, u: u32) -> Result<Group, Refusal> {
         lent::group_of(self.n, u, self.nodes, self.channels)
     }

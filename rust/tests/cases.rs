@@ -77,6 +77,7 @@ fn full() -> (Vec<u32>, Vec<u32>) {
     for u in 0..16 {
         let station = u as u32 + 1;
         let message = [0, 0, 0, 0, 0, station, station, 1];
+        nodes[u * 115] = 1;
         nodes[u * 115 + 2] = 0xffff & !(1 << u);
         for v in (0..16).filter(|&v| v != u) {
             let at = (u * 16 + v) * 65;

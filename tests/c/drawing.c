@@ -205,10 +205,11 @@ static void history(uint32_t n) {
     }
 }
 
-/* ---- writing: 1, 2, 14 */
+/* ---- writing: 1, 2, 18, 14 */
 
 static void order_of_drawing(void) {
     MUST(fresh(3) == ELECTION_DONE && up(3, 1, 2) == ELECTION_DONE);
+    nodes[ELECTION_AT_CLOCK] = 0; /* of 1, before the stamp of its message to 2 */
     channels[(1 * 3 + 1) * ELECTION_CELL_LEN] = 1; /* a message on 2 to 2 */
     keep();
     const size_t wide = ELECTION_NODES_LEN(3), cells = ELECTION_CHANNELS_LEN(3);
@@ -219,6 +220,9 @@ static void order_of_drawing(void) {
     MUST(turned_away(election_draw(3, nodes, wide, channels, cells + 1, out, 0), ELECTION_SIZES, 0, 0));
     MUST(turned_away(draw(3, 0), ELECTION_FAULT, 2, 2) && turned_away(draw(3, sizeof out), ELECTION_FAULT, 2, 2));
     channels[(1 * 3 + 1) * ELECTION_CELL_LEN] = 0;
+    keep();
+    MUST(turned_away(draw(3, 0), ELECTION_UNTIMELY, 1, 2) && turned_away(draw(3, sizeof out), ELECTION_UNTIMELY, 1, 2));
+    nodes[ELECTION_AT_CLOCK] = 1;
     keep();
     MUST(turned_away(draw(3, 31), ELECTION_ROOM, 0, 0) && draw(3, 32).number == ELECTION_DONE);
 }

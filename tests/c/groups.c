@@ -9,7 +9,7 @@
 
 #include "election.h"
 
-static uint32_t n, events, quiets, split, many, none;
+static uint32_t n, events, quiets, split, many, none, faults, untimely;
 static uint32_t nodes[ELECTION_NODES_LEN(ELECTION_MAX_STATIONS)], channels[ELECTION_CHANNELS_LEN(ELECTION_MAX_STATIONS)];
 static uint32_t nodes_before[ELECTION_NODES_LEN(ELECTION_MAX_STATIONS)], channels_before[ELECTION_CHANNELS_LEN(ELECTION_MAX_STATIONS)];
 static uint8_t image[ELECTION_IMAGE_MAX(ELECTION_MAX_STATIONS)];
@@ -103,12 +103,15 @@ static void compare_refusals(void) {
     uint32_t word = below((uint32_t)ELECTION_NODES_LEN(n)), kept = nodes[word];
     MUST(refused_group(election_group_of(n, 0, TABLES), ELECTION_STATION, 0, 0));
     MUST(refused_group(election_group_of(n, n + 1, TABLES), ELECTION_STATION, 0, 0));
-    nodes[word] ^= 0x10000; /* a set, an own height or a view is then at fault, but no clock and no time */
+    nodes[word] ^= 0x10000; /* a set, an own height or a view is then at fault, or a time is later than the clock; a clock is later itself */
     election_checked c = election_check(n, TABLES);
-    if (c.number == ELECTION_FAULT) {
-        MUST(refused_value(election_quiet(n, TABLES), ELECTION_FAULT, c.fault_at, c.fault_with));
-        MUST(refused_value(election_groups(n, TABLES), ELECTION_FAULT, c.fault_at, c.fault_with));
-        MUST(refused_group(election_group_of(n, 0, TABLES), ELECTION_FAULT, c.fault_at, c.fault_with));
+    if (c.number != ELECTION_DONE) {
+        MUST(c.number == ELECTION_FAULT || c.number == ELECTION_UNTIMELY);
+        MUST(refused_value(election_quiet(n, TABLES), c.number, c.fault_at, c.fault_with));
+        MUST(refused_value(election_groups(n, TABLES), c.number, c.fault_at, c.fault_with));
+        MUST(refused_group(election_group_of(n, 0, TABLES), c.number, c.fault_at, c.fault_with));
+        faults += c.number == ELECTION_FAULT;
+        untimely += c.number == ELECTION_UNTIMELY;
     }
     uint32_t other = n == ELECTION_MAX_STATIONS ? 17 : n + 1;
     MUST(refused_value(election_quiet(other, TABLES), ELECTION_SIZES, 0, 0));
@@ -182,5 +185,5 @@ int main(void) {
     for (n = 3; n <= 7; n++)
         history(3000);
     printf("quiet %" PRIu32 ", quiet and split %" PRIu32 ", groups with several collectors %" PRIu32 ", with none %" PRIu32 "\n", quiets, split, many, none);
-    return quiets > 500 && split > 100 && many > 500 && none > 500 ? 0 : 1;
+    return quiets > 500 && split > 100 && many > 500 && none > 500 && faults > 50 && untimely > 20 ? 0 : 1;
 }

@@ -41,12 +41,14 @@ static election_answer receive(uint32_t n, uint32_t from, uint32_t to) {
 static election_saved save(uint32_t n, size_t room) {
     return election_save(n, nodes, ELECTION_NODES_LEN(n), channels, ELECTION_CHANNELS_LEN(n), image, room);
 }
-static uint32_t restore(uint32_t n, size_t len) {
-    return election_restore(image, len, nodes, ELECTION_NODES_LEN(n), channels, ELECTION_CHANNELS_LEN(n)).number;
+static election_checked resumed(uint32_t n, size_t len) {
+    return election_restore(image, len, nodes, ELECTION_NODES_LEN(n), channels, ELECTION_CHANNELS_LEN(n));
 }
-static uint32_t look(uint32_t n, size_t len, uint32_t k, uint64_t place) {
-    return election_read_node(image, len, k, place, row, ELECTION_ROW_LEN(n)).number;
+static uint32_t restore(uint32_t n, size_t len) { return resumed(n, len).number; }
+static election_station looked(uint32_t n, size_t len, uint32_t k, uint64_t place) {
+    return election_read_node(image, len, k, place, row, ELECTION_ROW_LEN(n));
 }
+static uint32_t look(uint32_t n, size_t len, uint32_t k, uint64_t place) { return looked(n, len, k, place).number; }
 
 /* A plot with something everywhere: all channels up, and from each station its first message to every higher one heard where there is room. */
 static void busy(uint32_t n) {
@@ -75,12 +77,19 @@ static int is_kept(void) {
 static int refused(election_answer a, uint32_t number) {
     return a.number == number && a.rule == ELECTION_RULE_NONE && a.sent_to == 0 && a.sent == 0 && a.adopted_from == 0 &&
            a.level_tau == 0 && a.level_originator == 0 && a.level_bit == 0 &&
-           (number == ELECTION_FAULT || (a.fault_at == 0 && a.fault_with == 0)) && is_kept();
+           (number == ELECTION_FAULT || number == ELECTION_UNTIMELY || (a.fault_at == 0 && a.fault_with == 0)) && is_kept();
 }
 
-static int faulty(election_checked c, uint32_t at, uint32_t with) {
-    return c.number == ELECTION_FAULT && c.fault_at == at && c.fault_with == with;
+/* Refused with this number and pair. */
+static int refused_at(election_answer a, uint32_t number, uint32_t at, uint32_t with) {
+    return refused(a, number) && a.fault_at == at && a.fault_with == with;
 }
+
+static int says(election_checked c, uint32_t number, uint32_t at, uint32_t with) {
+    return c.number == number && c.fault_at == at && c.fault_with == with;
+}
+
+static int faulty(election_checked c, uint32_t at, uint32_t with) { return says(c, ELECTION_FAULT, at, with); }
 
 /* ---- sizes and names */
 
@@ -108,15 +117,15 @@ static void sizes(void) {
 
 static void lines(void) {
     const char *other = election_strerror(0xffffffffu);
-    for (uint32_t a = ELECTION_DONE; a <= ELECTION_SKETCH_LINK; a++) {
+    for (uint32_t a = ELECTION_DONE; a <= ELECTION_UNTIMELY; a++) {
         if (a == 15) /* the bench's */
             continue;
         CHECK(strlen(election_strerror(a)) > 10 && strcmp(election_strerror(a), other) != 0);
         for (uint32_t b = ELECTION_DONE; b < a; b++)
             CHECK(strcmp(election_strerror(a), election_strerror(b)) != 0);
     }
-    CHECK(strcmp(election_strerror(15), other) == 0 && strcmp(election_strerror(ELECTION_SKETCH_LINK + 1), other) == 0);
-    CHECK(ELECTION_ROOM == 14 && ELECTION_SKETCH_FORM == 16 && ELECTION_SKETCH_LINK == 17);
+    CHECK(strcmp(election_strerror(15), other) == 0 && strcmp(election_strerror(ELECTION_UNTIMELY + 1), other) == 0);
+    CHECK(ELECTION_ROOM == 14 && ELECTION_SKETCH_FORM == 16 && ELECTION_SKETCH_LINK == 17 && ELECTION_UNTIMELY == 18);
 }
 
 /* ---- the inline functions */
@@ -184,13 +193,19 @@ static void places(uint32_t n) {
 
 static void order_of_events(void) {
     busy(3);
+    uint32_t clock = election_clock(3, 2, nodes);
+    *word(3, 2, ELECTION_AT_CLOCK) = 0; /* before every stamp of 2's */
     *cell(3, 2, 2) = 1;
     keep();
     CHECK(refused(election_up(17, 0, 0, nodes, ELECTION_NODES_LEN(3), channels, ELECTION_CHANNELS_LEN(3)), ELECTION_SIZES));
     CHECK(refused(election_up(3, 0, 0, nodes, ELECTION_NODES_LEN(3) - 1, channels, ELECTION_CHANNELS_LEN(3)), ELECTION_SIZES));
     CHECK(refused(election_up(3, 0, 0, nodes, ELECTION_NODES_LEN(3), channels, ELECTION_CHANNELS_LEN(3) + 1), ELECTION_SIZES));
-    CHECK(refused(up(3, 0, 0), ELECTION_FAULT) && up(3, 0, 0).fault_at == 2 && up(3, 0, 0).fault_with == 2);
+    CHECK(refused_at(up(3, 0, 0), ELECTION_FAULT, 2, 2));
     *cell(3, 2, 2) = 0;
+    keep();
+    CHECK(refused_at(up(3, 0, 0), ELECTION_UNTIMELY, 2, 1) && refused_at(up(3, 2, 1), ELECTION_UNTIMELY, 2, 1));
+    CHECK(refused_at(down(3, 0, 0), ELECTION_UNTIMELY, 2, 1) && refused_at(receive(3, 0, 0), ELECTION_UNTIMELY, 2, 1));
+    *word(3, 2, ELECTION_AT_CLOCK) = clock;
     *word(3, 1, ELECTION_AT_CLOCK) = LAST_TIME;
     keep();
     CHECK(refused(up(3, 1, 4), ELECTION_STATION) && refused(up(3, 1, 1), ELECTION_STATION) && refused(down(3, 0, 1), ELECTION_STATION));
@@ -207,6 +222,8 @@ static void hears(uint32_t depth, uint32_t stamp) {
     const uint32_t own[ELECTION_MESSAGE_LEN] = {0, 0, 0, 0, 0, 2, 2, 1};
     const uint32_t heard[ELECTION_MESSAGE_LEN] = {0, 0, 0, depth, 0, 1, 1, stamp};
     fresh(2);
+    *word(2, 1, ELECTION_AT_CLOCK) = stamp;
+    *word(2, 2, ELECTION_AT_CLOCK) = 1;
     *word(2, 1, ELECTION_AT_FORMING) = 2;
     *word(2, 2, ELECTION_AT_FORMING) = 1;
     *cell(2, 1, 2) = 1;
@@ -223,7 +240,7 @@ static void order_of_ends(void) {
     CHECK(refused(receive(2, 1, 2), ELECTION_CLOCK_END) && election_waiting(2, 1, 2, channels) == 1); /* by the stamp alone */
     *word(2, 2, ELECTION_AT_FORMING) = 0;
     memset(cell(2, 2, 1), 0, ELECTION_CELL_LEN * sizeof channels[0]);
-    CHECK(receive(2, 1, 2).rule == ELECTION_RULE_IGNORED && election_clock(2, 2, nodes) == 1); /* the stamp of a message ignored does not count */
+    CHECK(receive(2, 1, 2).rule == ELECTION_RULE_IGNORED && election_clock(2, 2, nodes) == 2); /* the stamp of a message ignored does not count */
     hears(32767, LAST_TIME - 1);
     CHECK(refused(receive(2, 1, 2), ELECTION_DEPTH_END) && election_waiting(2, 1, 2, channels) == 1);
     hears(32766, LAST_TIME - 1);
@@ -247,7 +264,9 @@ static void order_of_faults(void) {
     cell(3, 1, 2)[0] = 1; /* a message on a channel that is down */
     memcpy(cell(3, 1, 2) + 1, word(3, 1, ELECTION_AT_HEIGHTS), ELECTION_HEIGHT_LEN * sizeof nodes[0]);
     CHECK(faulty(check(3), 1, 2));
-    *word(3, 1, ELECTION_AT_FORMING) |= 2; /* .. which is now up */
+    *word(3, 1, ELECTION_AT_FORMING) |= 2; /* .. which is now up; its stamp is 0, before the election of 1 */
+    CHECK(election_height_at(3, 1, 1, nodes).election_time > 0 && says(check(3), ELECTION_UNTIMELY, 1, 2));
+    cell(3, 1, 2)[1 + ELECTION_AT_STAMP] = election_clock(3, 1, nodes);
     CHECK(check(3).number == ELECTION_DONE);
     cell(3, 1, 2)[ELECTION_CELL_LEN - 1] = 1; /* an unused place */
     CHECK(faulty(check(3), 1, 2));
@@ -258,6 +277,8 @@ static void order_of_images(void) {
     election_saved s = save(3, sizeof image);
     size_t len = (size_t)s.size;
     CHECK(save(3, len).number == ELECTION_DONE && save(3, len - 1).number == ELECTION_ROOM && save(3, len - 1).size == 0);
+    *word(3, 2, ELECTION_AT_CLOCK) = 0; /* before every stamp of 2's */
+    CHECK(save(3, 0).number == ELECTION_UNTIMELY && save(3, 0).fault_at == 2 && save(3, 0).fault_with == 1 && save(3, 0).size == 0);
     *cell(3, 2, 2) = 1;
     CHECK(save(3, 0).number == ELECTION_FAULT && save(3, 0).fault_at == 2 && save(3, 0).fault_with == 2 && save(3, 0).size == 0);
     CHECK(election_save(3, nodes, 0, channels, 0, image, 0).number == ELECTION_SIZES);
@@ -269,15 +290,83 @@ static void order_of_images(void) {
     CHECK(restore(2, len - 1) == ELECTION_SIZES && look(2, len - 1, 9, 9) == ELECTION_SIZES);
     CHECK(restore(3, len - 1) == ELECTION_IMAGE_END && look(3, len - 1, 9, 9) == ELECTION_IMAGE_END);
     CHECK(restore(3, len + 1) == ELECTION_IMAGE_END && look(3, len + 1, 9, 9) == ELECTION_IMAGE_END);
-    image[8] ^= 0x80; /* station 16 in N of 1: contents, found behind the end */
-    CHECK(restore(3, len - 1) == ELECTION_IMAGE_END && restore(3, len) == ELECTION_FAULT && look(3, len, 9, 9) == ELECTION_FAULT);
-    image[8] ^= 0x80;
+    uint8_t *clock = image + election_place(3, 2) / 8, kept[4];
+    memcpy(kept, clock, sizeof kept);
+    memset(clock, 0, sizeof kept); /* station 2 at 0, before every stamp of its own; and at 2 2 a bit above n in its N */
+    clock[4] ^= 0x80;
+    CHECK(restore(3, len - 1) == ELECTION_IMAGE_END && look(3, len - 1, 9, 9) == ELECTION_IMAGE_END);
+    CHECK(says(resumed(3, len), ELECTION_FAULT, 2, 2) && look(3, len, 9, 9) == ELECTION_FAULT);
+    clock[4] ^= 0x80;
+    CHECK(restore(3, len - 1) == ELECTION_IMAGE_END && says(resumed(3, len), ELECTION_UNTIMELY, 2, 1));
+    election_station none = looked(3, len, 9, 9);
+    CHECK(none.number == ELECTION_UNTIMELY && none.fault_at == 2 && none.fault_with == 1);
+    CHECK(none.clock == 0 && none.linked == 0 && none.forming == 0);
+    memcpy(clock, kept, sizeof kept);
     CHECK(look(3, len, 9, 9) == ELECTION_STATION && look(3, len, 3, 9) == ELECTION_PLACE);
     size_t first_count = (size_t)election_place(3, 3) + 64 + 96 * 3;
     image[first_count / 8] |= 0xf0; /* a count of 15, met on the walk before any end */
     CHECK(first_count % 8 == 0 && restore(3, len - 1) == ELECTION_FAULT && look(3, len - 1, 9, 9) == ELECTION_FAULT);
     CHECK(restore(3, first_count / 8) == ELECTION_IMAGE_END);
     CHECK(is_kept());
+}
+
+/* ---- times: each kind at its limit, which passes, and one beyond */
+
+/* Station 2 of 3 has clock 9, a view of 1 and a message on its way to 3, each with a search and an election. */
+static void timed(void) {
+    const uint32_t head[] = {9, 1, 4};
+    const uint32_t view[ELECTION_HEIGHT_LEN] = {6, 3, 1, 1, 7, 3, 1}, own[ELECTION_HEIGHT_LEN] = {4, 1, 0, 0, 5, 1, 2};
+    const uint32_t message[ELECTION_MESSAGE_LEN] = {2, 2, 0, 1, 3, 2, 2, 8};
+    fresh(3);
+    memcpy(word(3, 2, ELECTION_AT_CLOCK), head, sizeof head);
+    memcpy(word(3, 2, ELECTION_AT_HEIGHTS), view, sizeof view);
+    memcpy(word(3, 2, ELECTION_AT_HEIGHTS + ELECTION_HEIGHT_LEN), own, sizeof own);
+    *cell(3, 2, 3) = 1;
+    memcpy(cell(3, 2, 3) + 1, message, sizeof message);
+}
+
+/* Every call on tables refuses with 18 and this pair, though it also breaks what is checked later; nothing lent changes. */
+static void untimely(uint32_t at, uint32_t with) {
+    const size_t wide = ELECTION_NODES_LEN(3), cells = ELECTION_CHANNELS_LEN(3);
+    keep();
+    election_value quiet = election_quiet(3, nodes, wide, channels, cells), groups = election_groups(3, nodes, wide, channels, cells);
+    election_group group = election_group_of(3, 0, nodes, wide, channels, cells);
+    election_saved drawn = election_draw(3, nodes, wide, channels, cells, image, 0), saved = save(3, 0);
+    CHECK(says(check(3), ELECTION_UNTIMELY, at, with));
+    CHECK(refused_at(up(3, 0, 0), ELECTION_UNTIMELY, at, with) && refused_at(down(3, 0, 0), ELECTION_UNTIMELY, at, with));
+    CHECK(refused_at(receive(3, 0, 0), ELECTION_UNTIMELY, at, with));
+    CHECK(quiet.number == ELECTION_UNTIMELY && quiet.fault_at == at && quiet.fault_with == with && quiet.value == 0);
+    CHECK(groups.number == ELECTION_UNTIMELY && groups.fault_at == at && groups.fault_with == with && groups.value == 0);
+    CHECK(group.number == ELECTION_UNTIMELY && group.fault_at == at && group.fault_with == with && group.members == 0);
+    CHECK(saved.number == ELECTION_UNTIMELY && saved.fault_at == at && saved.fault_with == with && saved.size == 0);
+    CHECK(drawn.number == ELECTION_UNTIMELY && drawn.fault_at == at && drawn.fault_with == with && drawn.size == 0);
+    CHECK(is_kept());
+}
+
+static void a_time(uint32_t *time, uint32_t limit, uint32_t at, uint32_t with) {
+    timed();
+    *time = limit;
+    CHECK(check(3).number == ELECTION_DONE && save(3, sizeof image).number == ELECTION_DONE);
+    *time = limit + 1;
+    untimely(at, with);
+    *time = LAST_TIME;
+    untimely(at, with);
+}
+
+static void order_of_times(void) {
+    uint32_t *view = word(3, 2, ELECTION_AT_HEIGHTS), *own = view + ELECTION_HEIGHT_LEN, *message = cell(3, 2, 3) + 1;
+    a_time(own + ELECTION_AT_SEARCH_TIME, 9, 2, 2);
+    a_time(own + ELECTION_AT_ELECTION_TIME, 9, 2, 2);
+    a_time(view + ELECTION_AT_SEARCH_TIME, 9, 2, 1);
+    a_time(view + ELECTION_AT_ELECTION_TIME, 9, 2, 1);
+    a_time(message + ELECTION_AT_SEARCH_TIME, 8, 2, 3);
+    a_time(message + ELECTION_AT_ELECTION_TIME, 8, 2, 3);
+    a_time(message + ELECTION_AT_STAMP, 9, 2, 3);
+    timed();
+    *word(3, 2, ELECTION_AT_CLOCK) = 0; /* all seven: the first pair is named */
+    untimely(2, 1);
+    *word(3, 3, ELECTION_AT_LINKED) = 4; /* 3 linked to itself: a broken rule comes first, at whatever pair */
+    CHECK(faulty(check(3), 3, 3));
 }
 
 int main(void) {
@@ -292,5 +381,6 @@ int main(void) {
     order_of_ends();
     order_of_faults();
     order_of_images();
+    order_of_times();
     return failures == 0 ? 0 : 1;
 }

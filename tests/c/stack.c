@@ -1,5 +1,6 @@
 /* How much stack each call takes at n = 16: a thread's stack is painted below this program's frames, the call is made, and the deepest
- * word that lost its paint is looked for. Each call runs on plots that are fresh, half full, full, and faulty in the last word.
+ * word that lost its paint is looked for. Each call runs on plots that are fresh, half full, full, untimely in the last stamp, and faulty in
+ * the last word.
  * Link with -Wl,-z,now: else the first memmove is looked up at run time, on this stack.
  * Prints the largest depth of each call; exit status 1 if one is above what include/election.h says, or if a call was not measured.
  */
@@ -82,9 +83,10 @@ static void fill(uint32_t waiting) {
     election_fresh(N, nodes, NODES, channels, CHANNELS);
     for (uint32_t u = 1; u <= N; u++) {
         uint32_t *r = nodes + (u - 1) * ELECTION_STATION_LEN(N);
+        r[ELECTION_AT_CLOCK] = N;
         r[ELECTION_AT_LINKED] = 0xffffu & ~(1u << (u - 1));
         for (uint32_t v = 1; v <= N; v++) {
-            const uint32_t message[ELECTION_MESSAGE_LEN] = {v, v, 0, v, 0, 1, v, 1};
+            const uint32_t message[ELECTION_MESSAGE_LEN] = {v, v, 0, v, 0, 1, v, N};
             uint32_t *c = channels + ((v - 1) * N + (u - 1)) * ELECTION_CELL_LEN;
             memcpy(r + ELECTION_AT_HEIGHTS + (v - 1) * ELECTION_HEIGHT_LEN, message, ELECTION_HEIGHT_LEN * sizeof message[0]);
             c[0] = u == v ? 0 : waiting;
@@ -129,9 +131,12 @@ static void *run(void *given) {
     election_fresh(N, nodes, NODES, channels, CHANNELS);
     measure();
     fill(ELECTION_CAPACITY);
-    channels[CHANNELS - 1] = 1;
-    image[image_len - 1] ^= 1;
+    channels[CHANNELS - ELECTION_CELL_LEN - 1] = N + 1; /* the last stamp, later than the clock of 16 */
+    image[image_len - 1] ^= 1;                          /* the same */
     sketch[sketch_len - 1] ^= 1;
+    measure();
+    fill(ELECTION_CAPACITY);
+    channels[CHANNELS - 1] = 1;
     measure();
     return NULL;
 }

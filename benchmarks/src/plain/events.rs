@@ -56,7 +56,7 @@ struct Plot<'a> {
 }
 
 impl<'a> Plot<'a> {
-    /// The tables after refusals 1 and 2.
+    /// The tables after refusals 1, 2 and 18.
     fn of(n: u32, nodes: &'a mut [u32], channels: &'a mut [u32]) -> Result<Plot<'a>, Refusal> {
         let n = checked(n, nodes, channels)?;
         let (cells, _) = channels.as_chunks_mut();

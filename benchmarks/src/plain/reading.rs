@@ -1,10 +1,9 @@
 //! Reading an image: all of it is checked before a lent word changes.
 
-use super::check::{height_is_sound, message_is_sound, sets_are_sound, sizes, view_is_sound};
+use super::check::{sizes, Holder, Search};
 use super::image::{row_bytes, HEADER_BYTES, MESSAGE_NIBBLES};
 use super::reader::{head, header, heights, rows, Reader};
 use super::refusals::{checked_answer, Refusal, IMAGE_END, PLACE, SIZES, STATION};
-use super::sets::has;
 use super::words::{row_words, Cell, CELL, HEAD, HEIGHT, PLACES};
 use crate::abi::{Checked, Station};
 
@@ -97,31 +96,25 @@ fn walk(n: usize, image: &[u8]) -> Result<(), Refusal> {
     }
 }
 
-/// The first fault of a walked image.
+/// Refusals 2 and 18 of a walked image, in one walk as for tables.
 fn contents(n: usize, image: &[u8]) -> Result<(), Refusal> {
     let mut reader = Reader::at_channels(n, image);
+    let mut search = Search::default();
     for (u, row) in rows(n, image).enumerate() {
-        let [_, linked, forming] = head(row);
+        let holder = Holder::of(n as u32, u, head(row));
         for (v, height) in heights(row).enumerate() {
-            let sound = if v == u {
-                sets_are_sound(n as u32, u, linked, forming)
-                    && height_is_sound(n as u32, u, &height)
+            let timely = if v == u {
+                holder.own(&height)
             } else {
-                view_is_sound(n as u32, v, linked, &height)
-                    && waiting_is_sound(n as u32, u, has(linked | forming, v), &mut reader)
+                let waiting = 0..reader.nibble();
+                let view = holder.view(v, &height);
+                let messages = waiting.map(|_| reader.message());
+                view.and_then(|view| Some(view & holder.messages(v, messages)?))
             };
-            if !sound {
-                return Err(Refusal::fault(u, v));
-            }
+            search.meets(u, v, timely)?;
         }
     }
-    Ok(())
-}
-
-/// The next channel's count and messages of station u.
-fn waiting_is_sound(n: u32, u: usize, up: bool, reader: &mut Reader) -> bool {
-    let count = reader.nibble();
-    (up || count == 0) && (0..count).all(|_| message_is_sound(n, u, &reader.message()))
+    search.ends()
 }
 
 fn fill_row(bytes: &[u8], row: &mut [u32]) {

@@ -2,7 +2,7 @@
 
 use crate::abi::Checked;
 
-/// Why a call is refused: the number, and the pair of refusal 2.
+/// Why a call is refused: the number, and the pair of refusals 2 and 18.
 #[derive(Clone, Copy)]
 pub struct Refusal {
     pub number: u32,
@@ -35,8 +35,17 @@ impl Refusal {
 
     /// Refusal 2 at the pair (u, v).
     pub fn fault(u: usize, v: usize) -> Refusal {
+        Refusal::at(2, u, v)
+    }
+
+    /// Refusal 18 at the pair (u, v).
+    pub fn untimely(u: usize, v: usize) -> Refusal {
+        Refusal::at(18, u, v)
+    }
+
+    fn at(number: u32, u: usize, v: usize) -> Refusal {
         Refusal {
-            number: 2,
+            number,
             at: u as u32 + 1,
             with: v as u32 + 1,
         }

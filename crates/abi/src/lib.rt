@@ -183,7 +183,7 @@ pub extern "C" fn election_fresh(n: u32, nodes: &mut [u32], channels: &mut [u32]
     reports::of_check(lent::fresh(n, nodes, channels))
 }
 
-// Refusals 1 and 2.
+// Refusals 1, 2 and 18.
 #[no_mangle]
 pub extern "C" fn election_check(n: u32, nodes: &[u32], channels: &[u32]) -> CheckReport
     ensures { λ r. ⌜ saidCheckReport r ≡ checkOn n (atEntry nodes channels) ⌝ }

@@ -1,4 +1,4 @@
--- Every state grown from the fresh network is good: it keeps the invariant, is within the ranges, and its history tells what it holds.
+-- Every state grown from the fresh network is good: it keeps the invariant, is within the ranges, its times make sense, and its history tells what it holds.
 -- The theorems read their statements off this one induction.
 use Prim.Native.Nat.{ℕ}
 use mathlib.Core.Bool.{cond}
@@ -19,16 +19,19 @@ use Rattle.protocol.proofs.Said.{rule-said}
 use Rattle.protocol.proofs.Soundness.{Fits, fresh-fits}
 use Rattle.protocol.proofs.StepFits.{step-fits}
 use Rattle.protocol.proofs.StepKeeps.{step-keeps, fresh-inv}
+use Rattle.protocol.proofs.Timed.{Timed, fresh-timed}
+use Rattle.protocol.proofs.TimedStep.{step-timed}
 use Rattle.calls.specs.History.{Told, State, started, entered, advance, grown}
 use Rattle.calls.proofs.HistoryLaws.{event-told}
 
 pub record Good (n : ℕ) (s : State) : Type 0 where
   pub inv : Inv n (s .network)
   pub fits : Fits n (s .network)
+  pub timed : Timed (s .network)
   pub told : Told (s .history) (s .network)
 
 pub good-started : (n : ℕ) → Good n started
-good-started n = record { inv = fresh-inv n; fits = fresh-fits n; told = record { ups = λ u v. refl; counts = λ u v. refl } }
+good-started n = record { inv = fresh-inv n; fits = fresh-fits n; timed = fresh-timed; told = record { ups = λ u v. refl; counts = λ u v. refl } }
 
 -- the number in an answer is the returned one
 pub answer-number : (n : ℕ) (p : Network) (e : Event) → answer n p e .why .number ≡ returned n p e
@@ -55,8 +58,9 @@ good-advance n s e g = go (choice (accepts n (s .network) e))
     go (yes! i) =
         let ok = accepts-accepted n p e i in
         rw (i, said ∙ i) (record {
-          inv = step-keeps n p e (g .inv) ok;
+          inv = step-keeps n p e (g .inv) (g .timed) ok;
           fits = step-fits n p e (g .fits) ok;
+          timed = step-timed n p e (g .fits) (g .timed) ok;
           told = event-told n p (s .history) e (g .fits) i ok (g .told);
         })
     go (no! i) = rw (i, said ∙ i) g

@@ -1,5 +1,6 @@
 -- Lists of calls on a network, by the meaning: the state stays good, and a restore gives back the network of the save whose bytes it is handed.
--- Images are a parameter here. Assumes that a save writes one, that one of a sound network is read as it, and that a refused reading changes nothing.
+-- Images are a parameter here. Assumes that a save writes one, that one of a sound network whose times make sense is read as it, and that a refused reading
+-- changes nothing.
 use Prim.Native.Nat.{ℕ}
 use mathlib.Core.Bool.{true}
 use mathlib.Core.List.{List}
@@ -11,7 +12,8 @@ use Rattle.basics.proofs.Tests.{Choice, yes!, no!, choice}
 use Rattle.protocol.specs.Answer.{Said}
 use Rattle.protocol.specs.Holds.{sound}
 use Rattle.protocol.specs.Network.{Node, Network, fresh, own, restrict}
-use Rattle.protocol.proofs.Holding.{sound-holds}
+use Rattle.protocol.specs.Times.{timely}
+use Rattle.protocol.proofs.Holding.{sound-holds, timely-holds}
 use Rattle.protocol.proofs.Restrict.{restrict-is}
 use Rattle.protocol.proofs.RuleLaws.{byCases}
 use Rattle.refusal.specs.Outcome.{Outcome}
@@ -43,7 +45,7 @@ stateAt s = record { network = s .at; history = s .history }
 module _ (write : ℕ → List ℕ → Network → Outcome ℕ (List ℕ)) (read : List ℕ → Network → Outcome ℕ Network) (n : ℕ)
     (ImageOf : Network → List ℕ → Type 0)
     (writes : (m : ℕ) (out : List ℕ) (p : Network) → write m out p .said ≡ 0 → ImageOf p (write m out p .after))
-    (reads : (p : Network) (b : List ℕ) → sound n p ≡ true → restrict n p ≡ p → ImageOf p b
+    (reads : (p : Network) (b : List ℕ) → sound n p ≡ true → restrict n p ≡ p → timely n p ≡ true → ImageOf p b
     → (q : Network) → read b q ≡ record { said = 0; after = p })
     (kept : (b : List ℕ) (q : Network) → sound n q ≡ true → restrict n q ≡ q → (read b q .said ≡ 0 → ⊥) → read b q .after ≡ q) where
   -- a save holds an image of a good state
@@ -60,9 +62,9 @@ module _ (write : ℕ → List ℕ → Network → Outcome ℕ (List ℕ)) (read
       → (q : Network) → read b q ≡ record { said = 0; after = s .at }
   read-saved w b s sane e q =
       let f = found Imaged b (w .saves) (sane .saves) s e in
-      let fits = f .1 .good .fits in
+      let g = f .1 .good in
       ap (λ (x : List ℕ). read x q) (sym (f .0))
-      ∙ reads (s .at) (s .bytes) (sound-holds n (s .at) fits) (restrict-is n (s .at) fits) (f .1 .image) q
+      ∙ reads (s .at) (s .bytes) (sound-holds n (s .at) (g .fits)) (restrict-is n (s .at) (g .fits)) (timely-holds n (s .at) (g .timed)) (f .1 .image) q
 
   -- a refused one leaves the network
   pub read-refused : (w : RunState Network) (b : List ℕ) → Sane w → (read b (w .now) .said ≡ 0 → ⊥) → read b (w .now) .after ≡ w .now

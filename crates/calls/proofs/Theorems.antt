@@ -38,7 +38,7 @@ pub good-steady : (n : ℕ) (s : State) → Good n s → Steady n (s .network)
 good-steady n s g = record {
   breaks-no-rule = sound-holds n (s .network) (g .fits);
   nothing-beyond = restrict-is n (s .network) (g .fits);
-  times-make-sense = timely-holds n (s .network) (g .inv) (g .fits);
+  times-make-sense = timely-holds n (s .network) (g .timed);
   no-sink = λ u. g .inv .nodes u .awake;
 }
 

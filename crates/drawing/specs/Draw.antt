@@ -1,4 +1,4 @@
--- Drawing lent tables: what it answers and what the lent bytes are afterwards. It checks 1, 2, 14; bytes past the drawing are not touched.
+-- Drawing lent tables: what it answers and what the lent bytes are afterwards. It checks 1, 2, 18, 14; bytes past the drawing are not touched.
 use Prim.Native.Nat.{ℕ, _+_, _-_, _*_}
 use mathlib.Core.Bool.{cond, _&&_}
 use mathlib.Core.List.{List}
@@ -12,12 +12,12 @@ use Rattle.drawing.specs.Drawing.{drawing}
 use Rattle.drawing.specs.declared.Drawn.{Drawn}
 use Rattle.drawing.specs.declared.Drawn.the-variants.{Written, Refused}
 
--- 0 and the drawing's length in bytes; or 1, 2 with the pair, 14
+-- 0 and the drawing's length in bytes; or 1, 2 or 18 with the pair, 14
 abbrev pub saidDrawn : Drawn → Answered ℕ
 saidDrawn (Written size) = accepted size
 saidDrawn (Refused r) = refusedWith 0 (whyOf r)
 
--- 1 or 2 by the check of the tables, else 14 or the drawing
+-- 1, 2 or 18 by the check of the tables, else 14 or the drawing
 unfoldable pub drawOn : ℕ → Tables → List ℕ → Outcome (Answered ℕ) (List ℕ)
 drawOn n t out = putChecked (checkOn n t) (drawing n (load n t)) out
 

@@ -12,7 +12,7 @@ use refusal::Refusal;
 mod linking;
 mod writing;
 
-// What drawing answers: the drawing's length in bytes (0), or sizes (1), the pair at fault (2), too little room (14).
+// What drawing answers: the drawing's length in bytes (0), or sizes (1), the pair at fault (2), the untimely pair (18), too little room (14).
 pub enum Drawn {
     Written(usize),
     Refused(Refusal),

@@ -1,4 +1,4 @@
--- An event on any tables, by what the check of the tables answers: refusal 1, refusal 2 with its pair, or on to `stepAt` on tables that fit.
+-- An event on any tables, by what the check of the tables answers: refusal 1, refusal 2 or 18 with its pair, or on to `stepAt` on tables that fit.
 use Prim.Native.Nat.{ℕ}
 use mathlib.Core.Path.{_≡_, sym, ap, _∙_}
 use Rattle.lent.specs.Check.{saidCheck, checkOn}

@@ -65,10 +65,10 @@ receipt-adopts n N row u v b = go (receiptRule n N row u v) (verdict n N row u v
     go rule (isA e) = b
     go rule (isR e) = tt
     go rule (isQ e f g) = tt
-    go rule (isF e f g) = tt
-    go rule (isE e) = tt
-    go rule (isS e) = tt
-    go rule (isP e f) = tt
+    go rule (isF s e f g) = tt
+    go rule (isE s e) = tt
+    go rule (isS s e) = tt
+    go rule (isP s e f) = tt
 
 -- ---- the sets in a row
 

@@ -19,7 +19,7 @@ use Rattle.lent.proofs.SoundNetworks.{sound-check}
 use Rattle.protocol.specs.Answer.{saidRefused}
 use Rattle.protocol.specs.Refusal.{answer, next}
 use Rattle.protocol.specs.Step.{Event}
-use Rattle.protocol.proofs.Holding.{sound-holds}
+use Rattle.protocol.proofs.Holding.{sound-holds, timely-holds}
 use Rattle.protocol.proofs.RuleLaws.{byCases}
 use Rattle.refusal.specs.Outcome.{outcome}
 use Rattle.refusal.specs.Refusal.{why}
@@ -56,7 +56,7 @@ module _ (n : ℕ) (low : 1 ≤ n) (few : n ≤ 16) (s : State) (good : Good n s
 
   pub own-call : (e : Event) → stepOn n e (tablesOf n (s .network)) ≡ outcome (answer n (s .network) e) (tablesOf n (next n (s .network) e))
   unfolding stepOn stepChecked stepAt
-  own-call e = rw (sound-check n (s .network) fits (sound-holds n (s .network) (good .fits)) low few, load-back n (s .network) fits)
+  own-call e = rw (sound-check n (s .network) fits (sound-holds n (s .network) (good .fits)) (timely-holds n (s .network) (good .timed)) low few, load-back n (s .network) fits)
 
   pub not-sized : (m : ℕ) → (m ≡ n → ⊥) → sized m (tablesOf n (s .network)) ≡ false
   unfolding sized

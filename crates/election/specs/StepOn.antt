@@ -1,5 +1,5 @@
 -- An event on lent tables: what it answers and what both tables are afterwards, by the meaning alone.
--- Document 01, "Returned numbers": 1, 2, then 3 to 9 of the loaded network; a refused call leaves the tables as they were.
+-- Document 01, "Returned numbers", and document 02 [3]: 1, 2, 18, then 3 to 9 of the loaded network; a refused call leaves the tables as they were.
 use Prim.Native.Nat.{ℕ}
 use mathlib.Core.Bool.{cond}
 use lib.Dec.{eqb}
@@ -16,7 +16,7 @@ use Rattle.tables.specs.Tables.{Tables}
 unfoldable pub stepAt : ℕ → Event → Tables → Outcome Said Tables
 stepAt n e t = outcome (answer n (load n t) e) (tablesOf n (next n (load n t) e))
 
--- by what the check of the tables says: 1 or 2, else on
+-- by what the check of the tables says: 1, 2 or 18, else on
 unfoldable pub stepChecked : ℕ → Event → Tables → Why → Outcome Said Tables
 stepChecked n e t c = cond (eqb (c .number) 0) (stepAt n e t) (outcome (saidRefused c) t)
 

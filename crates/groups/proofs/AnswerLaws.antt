@@ -1,4 +1,4 @@
--- What the check answered, carried on: refusals 1 and 2, or tables that pass.
+-- What the check answered, carried on: refusals 1, 2 and 18, or tables that pass.
 use Prim.Native.Nat.{ℕ}
 use mathlib.Core.Bool.{Bool, cond}
 use mathlib.Core.Path.{_≡_, sym, ap, _∙_}

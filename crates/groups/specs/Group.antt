@@ -1,4 +1,4 @@
--- One node's group in lent tables, its members and the collectors among them: 1 and 2 by the check, then 3, else both sets.
+-- One node's group in lent tables, its members and the collectors among them: 1, 2 and 18 by the check, then 3, else both sets.
 use Prim.Native.Nat.{ℕ}
 use mathlib.Core.Bool.{cond}
 use Rattle.lent.specs.Check.{checkOn}

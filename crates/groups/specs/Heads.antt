@@ -1,4 +1,4 @@
--- The lowest members of all groups of lent tables, as a set: 1 and 2 by the check, else one node for each group.
+-- The lowest members of all groups of lent tables, as a set: 1, 2 and 18 by the check, else one node for each group.
 use Prim.Native.Nat.{ℕ}
 use Rattle.lent.specs.Check.{checkOn}
 use Rattle.protocol.specs.Network.{upTo}

@@ -1,4 +1,4 @@
--- Whether the network of lent tables is quiet: 1 and 2 by the check, else 1 for quiet and 0 for not.
+-- Whether the network of lent tables is quiet: 1, 2 and 18 by the check, else 1 for quiet and 0 for not.
 use Prim.Native.Nat.{ℕ}
 use Rattle.lent.specs.Check.{checkOn}
 use Rattle.nodeset.specs.NodeSet.{digit}

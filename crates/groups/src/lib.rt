@@ -17,13 +17,13 @@ mod looks;
 mod walks;
 mod words;
 
-// Whether the network is quiet, or sizes (1), the pair at fault (2).
+// Whether the network is quiet, or sizes (1), the pair at fault (2), the untimely pair (18).
 pub enum QuietRead {
     Found(bool),
     Refused(Refusal),
 }
 
-// The lowest members of all groups, or 1, 2.
+// The lowest members of all groups, or 1, 2, 18.
 pub enum HeadsRead {
     Found(u16),
     Refused(Refusal),
@@ -35,7 +35,7 @@ pub struct Group {
     pub collectors: u16,
 }
 
-// A node's group, or 1, 2, or no such node (3).
+// A node's group, or 1, 2, 18, or no such node (3).
 pub enum GroupRead {
     Found(Group),
     Refused(Refusal),

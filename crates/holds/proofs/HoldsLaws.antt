@@ -1,23 +1,28 @@
 -- The rules of a height and of two sets as the code tests them: ranges that every word keeps are left out.
-use Prim.Native.Nat.{ℕ, zero, suc, _-_, _*_, _%_, _^_, _≤_, _<_}
+use Prim.Native.Nat.{ℕ, zero, suc, _+_, _-_, _*_, _%_, _^_, _≤_, _<_}
 use native.Mathlib.Omega.{arith}
 use mathlib.Core.Bool.{Bool, true, false, not, _&&_, _||_, and-assoc, and-true, and-false}
+use mathlib.Core.List.{List}
 use mathlib.Core.Logic.{_⊎_, inl, inr}
 use mathlib.Core.Path.{_≡_, refl, sym, ap, _∙_}
-use lib.Dec.{eqb, eqb·suc-zero, ltb, leb, lit<}
-use lib.IntN.{ℤ, pos, negsuc, negℤ}
+use lib.Dec.{eqb, eqb·suc-zero, ltb, leb, leb·suc-suc, lit<}
+use lib.IntN.{ℤ, pos, negsuc, negℤ, natAbs}
+use lib.ListN.{getD}
 use lib.Pow.{pow-mono, shl-exact}
 use lib.Signed.{leZ}
-use borrow.Author.Tests.{ltb-true, le-leb}
+use borrow.Author.Tests.{ltb-true, le-leb, lt-leb}
 use Rattle.basics.specs.Functions.{every}
 use Rattle.basics.proofs.Tests.{and-left, and-right, equal?}
 use Rattle.height.specs.Clock.{lastTime}
 use Rattle.height.specs.inner.Stored.{Negated}
+use Rattle.height.specs.Words.{heightAt}
 use Rattle.height.specs.declared.Height.{Height}
 use Rattle.height.specs.declared.ReferenceLevel.{ReferenceLevel}
+use Rattle.height.proofs.WordsLaws.{natAbs-neg}
 use Rattle.nodeset.specs.NodeSet.{member, within, apart}
 use Rattle.nodeset.proofs.Members.{none-above}
 use Rattle.protocol.specs.Holds.{levelHolds, deltaHolds, leaderPairHolds, heightHolds, notInBoth, setsHold}
+use Rattle.protocol.specs.Times.{timesWithin}
 
 -- ---- a height
 
@@ -54,8 +59,14 @@ unfolding Negated
 negated-range (pos n) h = le-leb n 0 h
 negated-range (negsuc n) h = rw (le-leb n 4294967294 h)
 
+-- an election time as a word
+negated-word : (w : ℕ) → w ≤ lastTime → Negated (negℤ (pos w))
+unfolding Negated
+negated-word zero l = omega arith
+negated-word (suc w) l = omega arith
+
 module _ (n k : ℕ) (h : Height) (negated : Negated (h .pair .nlts .0)) where
-  pub height-test : (levelHolds n (h .level) && deltaHolds (h .delta) && leb 1 (h .pair .lid) && leb (h .pair .lid) n && eqb (h .id) k)
+  height-test : (levelHolds n (h .level) && deltaHolds (h .delta) && leb 1 (h .pair .lid) && leb (h .pair .lid) n && eqb (h .id) k)
       ≡ heightHolds n k h
   unfolding heightHolds leaderPairHolds
   height-test =
@@ -63,6 +74,46 @@ module _ (n k : ℕ) (h : Height) (negated : Negated (h .pair .nlts .0)) where
         negated-range (h .pair .nlts .0) negated,
         and-assoc (levelHolds n (h .level) && deltaHolds (h .delta)) (leb 1 (h .pair .lid)) (leb (h .pair .lid) n),
       )
+
+-- the words of a height from `at` on, test by test
+module _ (n k : ℕ) (ws : List ℕ) (at : ℕ) (word : getD ws (at + 4) 0 ≤ lastTime) where
+  abbrev H : Height
+  H = heightAt ws at
+
+  whole : (levelHolds n (H .level) && deltaHolds (H .delta) && leb 1 (H .pair .lid) && leb (H .pair .lid) n && eqb (H .id) k) ≡ heightHolds n k H
+  unfolding heightAt
+  whole = height-test n k H (negated-word (getD ws (at + 4) 0) word)
+
+  pub other-node : eqb (H .id) k ≡ false → false ≡ heightHolds n k H
+  other-node e = sym (and-false (levelHolds n (H .level) && deltaHolds (H .delta) && leb 1 (H .pair .lid) && leb (H .pair .lid) n)) ∙ (rw e at whole)
+
+  pub bad-level : levelHolds n (H .level) ≡ false → false ≡ heightHolds n k H
+  bad-level l = rw l at whole
+
+  pub bad-delta : levelHolds n (H .level) ≡ true → deltaHolds (H .delta) ≡ false → false ≡ heightHolds n k H
+  bad-delta l d = rw (l, d) at whole
+
+  pub by-leader : eqb (H .id) k ≡ true → levelHolds n (H .level) ≡ true → deltaHolds (H .delta) ≡ true
+      → (leb 1 (H .pair .lid) && leb (H .pair .lid) n) ≡ heightHolds n k H
+  by-leader e l d = sym (and-true (leb 1 (H .pair .lid) && leb (H .pair .lid) n)) ∙ (rw (e, l, d) at whole)
+
+-- ---- its times
+
+-- an election time without its sign
+elected-within : (c : ℕ) (z : ℤ) → Negated z → leb (natAbs z) c ≡ leZ (negℤ (pos c)) z
+unfolding Negated
+elected-within zero (pos zero) h = refl
+elected-within (suc c) (pos zero) h = le-leb 0 (suc c) (omega arith)
+elected-within c (pos (suc n)) h = absurd (omega arith)
+elected-within zero (negsuc n) h = lt-leb (suc n) 0 (omega arith)
+elected-within (suc c) (negsuc n) h = leb·suc-suc n c
+
+module _ (c : ℕ) (ws : List ℕ) (at : ℕ) where
+  pub times-test : getD ws (at + 4) 0 ≤ lastTime → (leb (getD ws at 0) c && leb (getD ws (at + 4) 0) c) ≡ timesWithin c (heightAt ws at)
+  unfolding timesWithin heightAt
+  times-test word =
+      ap (λ (b : Bool). leb (getD ws at 0) c && b)
+      (ap (λ (w : ℕ). leb w c) (sym (natAbs-neg (getD ws (at + 4) 0))) ∙ elected-within c (negℤ (pos (getD ws (at + 4) 0))) (negated-word (getD ws (at + 4) 0) word))
 
 -- ---- two sets
 

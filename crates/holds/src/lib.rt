@@ -1,14 +1,16 @@
-// The rules of a height and of a node's two sets as tests (document 01, "What a station holds").
+// The rules of a height and of a node's two sets as tests (document 01, "What a station holds"), and whether a height's times make sense.
 // These are leaves: only our crates call them, with the bounds that `requires` states.
 ghost use mathlib.Core.Path.{_≡_};
 ghost use mathlib.Core.Bool.{_&&_};
-ghost use Prim.Native.Nat.{_≤_};
-ghost use Rattle.height.specs.inner.Stored.{Negated};
+ghost use Prim.Native.Nat.{_+_, _≤_};
+ghost use lib.ListN.{length};
+ghost use Rattle.height.specs.Words.{heightSize, heightAt};
 ghost use Rattle.nodeset.specs.NodeSet.{member, within};
 ghost use Rattle.protocol.specs.Holds.{levelHolds, deltaHolds, heightHolds, setsHold};
 ghost use Rattle.protocol.specs.Network.{Node};
-use height::Height;
+ghost use Rattle.protocol.specs.Times.{timesWithin};
 use height::ReferenceLevel;
+use height::Time;
 
 // A reference level.
 fn level_holds(n: u32, l: ReferenceLevel) -> bool
@@ -30,19 +32,35 @@ fn delta_holds(d: i32) -> bool
     (height::LEAST_DELTA <= d) & (d <= height::GREATEST_DELTA)
 }
 
-// A height of node k.
-pub fn height_holds(n: u32, k: u32, h: Height) -> bool
-    requires { ⌜ Negated (h .pair .nlts .0) ⌝ }
-    ensures { λ r. ⌜ r ≡ heightHolds n k h ⌝ }
+// A height of node k, whose words stand from `at`. Each test reads its own words, and the first that fails ends it.
+pub fn height_holds(n: u32, k: u32, words: &[u32], at: usize) -> bool
+    requires { ⌜ at + heightSize ≤ length (now words) ⌝ }
+    ensures { λ r. ⌜ r ≡ heightHolds n k (heightAt (now (words .entry)) at) ⌝ }
 {
-    if !level_holds(n, h.level) {
+    if words[at + 6] != k {
         return false;
     }
-    if !delta_holds(h.delta) {
+    let level = ReferenceLevel {
+        tau: Time(words[at]),
+        oid: words[at + 1],
+        r: words[at + 2],
+    };
+    if !level_holds(n, level) {
         return false;
     }
-    let lid = h.pair.lid;
-    (1 <= lid) & (lid <= n) & (h.id == k)
+    if !delta_holds(height::words::delta_of(words[at + 3])) {
+        return false;
+    }
+    let lid = words[at + 5];
+    (1 <= lid) & (lid <= n)
+}
+
+// The search time and the election time of the height whose words stand from `at`, neither above c.
+pub fn times_within(c: u32, words: &[u32], at: usize) -> bool
+    requires { ⌜ at + heightSize ≤ length (now words) ⌝ }
+    ensures { λ r. ⌜ r ≡ timesWithin c (heightAt (now (words .entry)) at) ⌝ }
+{
+    (words[at] <= c) & (words[at + 4] <= c)
 }
 
 // Two sets of node u, as words: of nodes 1 to n, disjoint, never holding u.

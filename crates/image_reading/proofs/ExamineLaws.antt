@@ -8,7 +8,7 @@ use mathlib.Core.Path.{_≡_, sym, ap, _∙_}
 use lib.ListN.{length}
 use Rattle.image.specs.Places.{tablesIn}
 use Rattle.image.specs.inner.Parts.{imageEnd}
-use Rattle.lent.specs.Check.{firstFault}
+use Rattle.lent.specs.Check.{contentsOn}
 use Rattle.refusal.specs.Refusal.{why, whyOf}
 use Rattle.refusal.specs.declared.Refusal.{Refusal}
 use Rattle.refusal.specs.declared.Why.{Why}
@@ -33,7 +33,7 @@ module _ (h d n : ℕ) (l : List ℕ) {w : Walk} (walks : w ≡ walk h d n l) wh
     unfolding afterWalk
     examined-bad-end b = rw b at after
 
-    pub examined-contents : endsAt l q ≡ true → {x : Why} → x ≡ firstFault n (tablesIn h d n l) → x ≡ examined h d n l
+    pub examined-contents : endsAt l q ≡ true → {x : Why} → x ≡ contentsOn n (tablesIn h d n l) → x ≡ examined h d n l
     unfolding afterWalk
     examined-contents b e = e ∙ (rw b at after)
 

@@ -15,6 +15,7 @@ ghost use Rattle.image_reading.specs.inner.Answers.{saidHeader};
 use image::DEPTH_WIDTH;
 use image::HEADER_END;
 use lent::Checked;
+use pairs::Late;
 use refusal::Refusal;
 
 mod contents;
@@ -34,10 +35,18 @@ pub enum Header {
     Refused(Refusal),
 }
 
-// Where a walk is, or why it stopped: at a pair (a count above 8, or contents that break a rule, 2), or at the end of the image (12).
+// Where a walk is, or why it stopped: at a pair (a count above 8, 2), or at the end of the image (12).
 pub enum Walk {
     At(usize),
     Refused(Refusal),
+}
+
+// What the search of a row's pairs found: whether one is at fault; the first such, else the first untimely pair, 0 0 where there is none; and the place
+// behind the row's channels.
+pub struct RowFound {
+    pub faulty: bool,
+    pub at: Late,
+    pub place: usize,
 }
 
 // The header, for any bytes whatever.

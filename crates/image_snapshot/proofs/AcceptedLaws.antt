@@ -18,7 +18,7 @@ use Rattle.image_reading.specs.Walk.{walk, endsAt}
 use Rattle.image_reading.specs.declared.Walk.the-variants.{At, Refused}
 use Rattle.image_reading.specs.declared.Walk.{Walk}
 use Rattle.image_reading.proofs.WalkLaws.{walk-accepted}
-use Rattle.lent.specs.Check.{firstFault}
+use Rattle.lent.specs.Check.{contentsOn}
 use Rattle.refusal.specs.Outcome.{accepted}
 use Rattle.refusal.specs.Refusal.{why, whyOf}
 use Rattle.refusal.proofs.RefusalLaws.{never-0}
@@ -70,14 +70,14 @@ pub record ExaminedGood (n : ℕ) (l : List ℕ) : Type 0 where
   pub walkable : Walkable headerLength depthWidth n l
   pub no-more : length l < imageEnd headerLength depthWidth n l + 8
   pub pad : number (drop (imageEnd headerLength depthWidth n l) l) ≡ 0
-  pub sound : firstFault n (tablesIn headerLength depthWidth n l) .number ≡ 0
+  pub no-fault : contentsOn n (tablesIn headerLength depthWidth n l) .number ≡ 0
 
 pub examined-good : (n : ℕ) (l : List ℕ) → n ≤ 16 → examined headerLength depthWidth n l .number ≡ 0 → ExaminedGood n l
 unfolding examined afterWalk endsAt
 examined-good n l few zero = go (walk headerLength depthWidth n l) refl zero
   where
     good : (q : ℕ) → walk headerLength depthWidth n l ≡ At q → Choice (endsAt l q)
-        → cond (endsAt l q) (firstFault n (tablesIn headerLength depthWidth n l)) (why 12 0 0) .number ≡ 0
+        → cond (endsAt l q) (contentsOn n (tablesIn headerLength depthWidth n l)) (why 12 0 0) .number ≡ 0
         → ExaminedGood n l
     good q w (no! e) z = let y : _≡_ {A = ℕ} 12 0 = rw e at z in absurd (omega arith)
     good q w (yes! e) z =
@@ -89,7 +89,7 @@ examined-good n l few zero = go (walk headerLength depthWidth n l) refl zero
           walkable = both .1;
           no-more = rw (← both .0) near;
           pad = rw (← both .0) pad;
-          sound = rw e at z;
+          no-fault = rw e at z;
         }
 
     go : (w : Walk) → walk headerLength depthWidth n l ≡ w → afterWalk headerLength depthWidth n l w .number ≡ 0 → ExaminedGood n l

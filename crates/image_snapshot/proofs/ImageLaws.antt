@@ -1,9 +1,9 @@
 -- What a reader finds in the image of a sound network: the header, the walk to the end, the pad, and the network's tables.
--- Assumes 1 to 16 nodes, and a network that breaks no rule and holds nothing beyond node n.
+-- Assumes 1 to 16 nodes, and a network that breaks no rule and holds nothing beyond node n; that its contents pass, also that its times make sense.
 use Prim.Native.Nat.{ℕ, suc, _+_, _-_, _≤_, _<_}
 use native.Mathlib.Omega.{arith}
-use mathlib.Core.Bool.{Bool, true, false, cond}
-use mathlib.Core.Path.{_≡_, refl, ap}
+use mathlib.Core.Bool.{true}
+use mathlib.Core.Path.{_≡_, refl, ap, _∙_}
 use borrow.Author.Tests.{eq-eqb, ne-eqb, le-leb, lt-ltb, le-ltb}
 use lib.ListN.{length, drop, length-map}
 use Rattle.bits.specs.Bits.{field, unpacked}
@@ -21,10 +21,12 @@ use Rattle.image_reading.specs.Header.{fieldsOf, headerHolds, headerOf}
 use Rattle.image_reading.specs.Walk.{walk, endsAt}
 use Rattle.image_reading.specs.declared.Walk.the-variants.{At}
 use Rattle.image_reading.proofs.WalkLaws.{walk-goes}
-use Rattle.lent.specs.Check.{checkOn, firstFault}
+use Rattle.lent.specs.Check.{contentsOn}
+use Rattle.lent.proofs.CheckLaws.{is-sized, check-pairs}
 use Rattle.lent.proofs.SoundNetworks.{sound-check}
 use Rattle.protocol.specs.Holds.{sound}
 use Rattle.protocol.specs.Network.{Two, Network, restrict}
+use Rattle.protocol.specs.Times.{timely}
 use Rattle.protocol.proofs.SoundStep.{sound-fits}
 use Rattle.protocol.proofs.Soundness.{Fits, diagonal}
 use Rattle.refusal.specs.Outcome.{accepted}
@@ -32,8 +34,7 @@ use Rattle.refusal.specs.Refusal.{why}
 use Rattle.tables.specs.Cell.{messageWords}
 use Rattle.tables.specs.Load.{tablesOf}
 use Rattle.tables.specs.Records.{recordsOf}
-use Rattle.tables.specs.Tables.{sized}
-use Rattle.tables.proofs.Back.{storable}
+use Rattle.tables.proofs.Back.{storable, tables-sized}
 use Rattle.image.specs.Widths.{headerLength, depthWidth}
 use Rattle.tables.proofs.RecordsLaws.{Agree, agree-tables}
 
@@ -124,17 +125,13 @@ module _ (n : ℕ) (low : 1 ≤ n) (few : n ≤ 16) (p : Network) (holds : sound
       let rest = image-end 1 headerLength depthWidth n (omega arith) (omega arith) (omega arith) (recordsOf n p) fit in
       rw (lt-ltb (length l) (e + 8) (rw (length-unpacked (imageOf 1 headerLength depthWidth n (recordsOf n p))) near), rest, number-zeros _)
 
-  -- nothing is at fault
-  pub image-sound : firstFault n (tablesIn headerLength depthWidth n (unpacked (image n p))) ≡ why 0 0 0
-  image-sound = rw image-tables (sized-check (sized n (tablesOf n p)) refl (unfold checkOn in sound-check n p (storable n p fits) holds low few))
-    where
-      sized-check : (b : Bool) → sized n (tablesOf n p) ≡ b → cond (sized n (tablesOf n p)) (firstFault n (tablesOf n p)) (why 1 0 0) ≡ why 0 0 0
-          → firstFault n (tablesOf n p) ≡ why 0 0 0
-      sized-check true e h = rw e at h
-      sized-check false e h =
-          let z : _≡_ {A = ℕ} 1 0 = ap (λ c. c .number) (rw e at h) in
-          absurd (omega arith)
+  module _ (times : timely n p ≡ true) where
+    -- nothing is at fault, and no pair is untimely
+    image-contents : contentsOn n (tablesIn headerLength depthWidth n (unpacked (image n p))) ≡ why 0 0 0
+    image-contents =
+        rw image-tables
+        (check-pairs n (tablesOf n p) (is-sized n (tablesOf n p) (tables-sized n p low few)) ∙ sound-check n p (storable n p fits) holds times low few)
 
-  pub image-examined : examined headerLength depthWidth n (unpacked (image n p)) ≡ why 0 0 0
-  unfolding examined afterWalk
-  image-examined = rw (image-walk, image-ends) image-sound
+    pub image-examined : examined headerLength depthWidth n (unpacked (image n p)) ≡ why 0 0 0
+    unfolding examined afterWalk
+    image-examined = rw (image-walk, image-ends) image-contents

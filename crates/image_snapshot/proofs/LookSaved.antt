@@ -1,5 +1,5 @@
 -- A look at node k of a saved image, where k's record starts, gives k's own data word for word: clock, both sets, n heights.
--- Assumes 1 to 16 nodes, and a network that breaks no rule and holds nothing beyond node n; or tables that pass the check, of words of 32 bits.
+-- Assumes 1 to 16 nodes, and a network that breaks no rule, holds nothing beyond node n and whose times make sense; or tables that pass the check, of words of 32 bits.
 use Prim.Native.Nat.{ℕ, _*_, _≤_}
 use mathlib.Core.Bool.{true}
 use mathlib.Core.List.{List}
@@ -15,11 +15,12 @@ use Rattle.image_reader.specs.Record.{recordIn}
 use Rattle.image_reading.specs.declared.Fields.{Fields}
 use Rattle.lent.specs.Check.{checkOn}
 use Rattle.lent.proofs.CheckLaws.{sound-sized}
-use Rattle.lent.proofs.SoundLoads.{sound-loads, load-inside}
+use Rattle.lent.proofs.SoundLoads.{sound-loads, timely-loads, load-inside}
 use Rattle.lent.proofs.SoundTables.{Words, sound-fits}
 use Rattle.nodeset.specs.NodeSet.{setOf}
 use Rattle.protocol.specs.Holds.{sound}
 use Rattle.protocol.specs.Network.{Node, Network, restrict}
+use Rattle.protocol.specs.Times.{timely}
 use Rattle.refusal.specs.Outcome.{accepted, Answered, outcome}
 use Rattle.refusal.specs.Refusal.{why}
 use Rattle.refusal.specs.declared.Why.{Why}
@@ -51,13 +52,13 @@ row-looked n l k node =
     ∙ sym (node-from n (recordsIn headerLength depthWidth n l) (records-shaped headerLength depthWidth n l) k node))
 
 module _ (n : ℕ) (low : 1 ≤ n) (few : n ≤ 16) (p : Network) (holds : sound n p ≡ true) (inside : restrict n p ≡ p)
-    (k : ℕ) (node : Node n k) (row : List ℕ) (wide : length row ≡ n * heightSize) where
+    (times : timely n p ≡ true) (k : ℕ) (node : Node n k) (row : List ℕ) (wide : length row ≡ n * heightSize) where
   look-tables : readNodeOn (image n p) k (nodePlace headerLength depthWidth n k) row ≡ rowLooked (nodeOf n k (tablesOf n p .nodes))
   look-tables =
       let xs = image n p in
       let count : field xs 16 5 ≡ n = ap (λ (f : Fields). f .n) (image-fields n low few p holds inside) in
       let header = header-good xs (ap (λ (s : Answered Fields). s .why .number) (image-header n low few p holds inside)) in
-      let passes = ap (λ (c : Why). c .number) (image-examined n low few p holds inside) in
+      let passes = ap (λ (c : Why). c .number) (image-examined n low few p holds inside times) in
       rw count at (own-place xs row (record { header = header; wide = rw count wide; contents = rw count passes }) k (rw count node))
       ∙ row-looked n (unpacked xs) k node
       ∙ ap (λ (t : Tables). rowLooked (nodeOf n k (t .nodes))) (image-tables n low few p holds inside)
@@ -73,5 +74,5 @@ pub look-saved : (n : ℕ) (t : Tables) → Words t → checkOn n t .number ≡ 
 look-saved n t words passes k node row wide =
     let size = sound-sized n t passes in
     let whole = sound-fits n t words passes in
-    look-tables n (size .low) (size .few) (load n t) (sound-loads n t words passes) (load-inside n t whole) k node row wide
+    look-tables n (size .low) (size .few) (load n t) (sound-loads n t words passes) (load-inside n t whole) (timely-loads n t words passes) k node row wide
     ∙ ap (λ (u : Tables). rowLooked (nodeOf n k (u .nodes))) (tables-back n t whole)

@@ -16,7 +16,7 @@ use Rattle.tables.proofs.Back.{storable, load-back}
 use Rattle.image.specs.Widths.{headerLength, depthWidth}
 use Rattle.image_snapshot.proofs.ImageLaws.{image-fields, image-tables}
 
--- a network of n nodes that can be saved
+-- a network of n nodes that breaks no rule
 pub record Savable (n : ℕ) (p : Network) : Type 0 where
   pub low : 1 ≤ n
   pub few : n ≤ 16

@@ -43,7 +43,7 @@ module _ (xs : List ℕ) (bytes : Below 256 xs) (head : HeaderGood xs) (good : E
 
   -- the tables pass the check
   passes : checkOn (field xs 16 5) (tablesIn headerLength depthWidth (field xs 16 5) (unpacked xs)) .number ≡ 0
-  passes = rw (← check-pairs (field xs 16 5) (tablesIn headerLength depthWidth (field xs 16 5) (unpacked xs)) (is-sized _ _ size)) (good .sound)
+  passes = rw (← check-pairs (field xs 16 5) (tablesIn headerLength depthWidth (field xs 16 5) (unpacked xs)) (is-sized _ _ size)) (good .no-fault)
 
   words : Words (tablesIn headerLength depthWidth (field xs 16 5) (unpacked xs))
   words = records-words headerLength depthWidth (field xs 16 5) (unpacked xs) (below-unpacked xs) (omega arith)

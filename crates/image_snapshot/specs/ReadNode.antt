@@ -30,7 +30,7 @@ nodePlaced h n l k place row =
     (cond (eqb place (nodePlace h depthWidth n k)) (recordIn n l place) (unread (why 13 0 0) row))
     (unread (why 3 0 0) row)
 
--- by what the checks behind the header say: 2 or 12, else on
+-- by what the checks behind the header say: 2, 12 or 18, else on
 unfoldable pub nodeExamined : ℕ → ℕ → List ℕ → ℕ → ℕ → List ℕ → Why → Looked
 nodeExamined h n l k place row c = cond (eqb (c .number) 0) (nodePlaced h n l k place row) (unread c row)
 

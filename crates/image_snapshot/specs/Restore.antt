@@ -1,5 +1,5 @@
 -- Restoring (document 01: resume): reads a whole image into lent tables, or refuses and leaves them as they were.
--- 10, 11; 1 for the tables, by the header's n; then the walk, the end and the contents: 2 or 12.
+-- 10, 11; 1 for the tables, by the header's n; then the walk, the end and the contents: 2, 12 or 18.
 use Prim.Native.Nat.{ℕ}
 use mathlib.Core.Bool.{cond}
 use mathlib.Core.List.{List}
@@ -15,7 +15,7 @@ use Rattle.refusal.specs.Refusal.{why}
 use Rattle.refusal.specs.declared.Why.{Why}
 use Rattle.tables.specs.Tables.{Tables, sized}
 
--- by what the checks behind the header say: 2 or 12, else the tables that the image's records make
+-- by what the checks behind the header say: 2, 12 or 18, else the tables that the image's records make
 unfoldable pub restoreExamined : ℕ → List ℕ → Tables → Why → Outcome Why Tables
 restoreExamined n l t c = outcome c (cond (eqb (c .number) 0) (tablesIn headerLength depthWidth n l) t)
 

@@ -19,7 +19,7 @@ mod looking;
 mod restoring;
 mod saving;
 
-// What a save answers: the image's length in bytes (0), or sizes (1), the pair at fault (2), too little room (14).
+// What a save answers: the image's length in bytes (0), or sizes (1), the pair at fault (2) or untimely (18), too little room (14).
 pub enum Saved {
     Written(usize),
     Refused(Refusal),
@@ -66,7 +66,7 @@ fn turned_away(h: Header) -> Refusal
     }
 }
 
-// The network of an image goes into the tables: 10, 11, 1, 2, 12, or done (0).
+// The network of an image goes into the tables: 10, 11, 1, 2, 12, 18, or done (0).
 pub fn restore(image: &[u8], nodes: &mut [u32], channels: &mut [u32]) -> Checked
     ensures { λ r. ⌜ outcome (saidCheck r) (atExit nodes channels) ≡ restoreOn (now (image .entry)) (atEntry nodes channels) ⌝ }
 {

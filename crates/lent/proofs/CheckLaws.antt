@@ -1,4 +1,4 @@
--- What a check's answer tells: the sizes, and where it is 0 that every pair holds.
+-- What a check's answer tells: the sizes, and where it is 0 that every pair holds and its times make sense.
 use Prim.Native.Nat.{ℕ, zero, suc, _+_, _*_, _≤_, _<_}
 use native.Mathlib.Omega.{arith}
 use mathlib.Core.Bool.{Bool, true, false, cond, _&&_}
@@ -13,7 +13,7 @@ use Rattle.refusal.specs.Refusal.{why}
 use Rattle.refusal.specs.declared.Why.{Why}
 use Rattle.tables.specs.Tables.{Tables, sized, width, cellWidth}
 use Rattle.tables.specs.inner.Fit.{Sized}
-use Rattle.lent.specs.Check.{pairAt, faultInRow, faultFrom, orElse, firstFault, checkOn}
+use Rattle.lent.specs.Check.{pairAt, timelyAt, faultInRow, faultFrom, orElse, firstFault, firstUntimely, contentsOn, checkOn}
 
 -- ---- the sizes
 
@@ -41,18 +41,11 @@ module _ (n : ℕ) (t : Tables) where
   unfolding checkOn
   check-sizes e = rw e
 
-  pub check-pairs : sized n t ≡ true → firstFault n t ≡ checkOn n t
+  pub check-pairs : sized n t ≡ true → contentsOn n t ≡ checkOn n t
   unfolding checkOn
   check-pairs e = rw e
 
 -- ---- no fault: every pair holds
-
-two-not-zero : {X : Type 0} → _≡_ {A = ℕ} 2 0 → X
-two-not-zero e = absurd (omega arith)
-
-cond-none : (b : Bool) (rest : Why) (u v : ℕ) → cond b rest (why 2 u v) .number ≡ 0 → (b ≡ true) × (rest .number ≡ 0)
-cond-none true rest u v e = (refl, e)
-cond-none false rest u v e = two-not-zero e
 
 or-none : (s rest : Why) → orElse s rest .number ≡ 0 → (s .number ≡ 0) × (rest .number ≡ 0)
 or-none s rest e = go (choice (eqb (s .number) 0))
@@ -69,26 +62,47 @@ split P v w here on h = go (equal? w v)
     go (inl e) = subst P e here
     go (inr d) = on (omega arith)
 
-row-holds : (s : ℕ → ℕ → Bool) (u w k : ℕ) → faultInRow s u w k .number ≡ 0 → (v : ℕ) → w ≤ v → v < w + k → s u v ≡ true
-unfolding faultInRow
-row-holds s u w zero e v h q = absurd (omega arith)
-row-holds s u w (suc k) e v h q =
-    let both = cond-none (s u w) (faultInRow s u (suc w) k) u w e in
-    split (λ x. s u x ≡ true) v w (both .0) (λ l. row-holds s u (suc w) k (both .1) v l (omega arith)) h
+-- pairs that are said with a number other than 0 where they fail
+module _ (number : ℕ) (some : number ≡ 0 → ⊥) (s : ℕ → ℕ → Bool) where
+  cond-none : (b : Bool) (rest : Why) (u v : ℕ) → cond b rest (why number u v) .number ≡ 0 → (b ≡ true) × (rest .number ≡ 0)
+  cond-none true rest u v e = (refl, e)
+  cond-none false rest u v e = absurd (some e)
 
-rows-hold : (s : ℕ → ℕ → Bool) (n w k : ℕ) → faultFrom s n w k .number ≡ 0 → (u v : ℕ) → w ≤ u → u < w + k → Node n v → s u v ≡ true
-unfolding faultFrom
-rows-hold s n w zero e u v h q b = absurd (omega arith)
-rows-hold s n w (suc k) e u v h q b =
-    let both = or-none (faultInRow s w 1 n) (faultFrom s n (suc w) k) e in
-    split (λ x. s x v ≡ true) u w (row-holds s w 1 n (both .0) v (b .low) (omega (arith, b .high)))
-    (λ l. rows-hold s n (suc w) k (both .1) u v l (omega arith) b) h
+  row-holds : (u w k : ℕ) → faultInRow number s u w k .number ≡ 0 → (v : ℕ) → w ≤ v → v < w + k → s u v ≡ true
+  unfolding faultInRow
+  row-holds u w zero e v h q = absurd (omega arith)
+  row-holds u w (suc k) e v h q =
+      let both = cond-none (s u w) (faultInRow number s u (suc w) k) u w e in
+      split (λ x. s u x ≡ true) v w (both .0) (λ l. row-holds u (suc w) k (both .1) v l (omega arith)) h
+
+  rows-hold : (n w k : ℕ) → faultFrom number s n w k .number ≡ 0 → (u v : ℕ) → w ≤ u → u < w + k → Node n v → s u v ≡ true
+  unfolding faultFrom
+  rows-hold n w zero e u v h q b = absurd (omega arith)
+  rows-hold n w (suc k) e u v h q b =
+      let both = or-none (faultInRow number s w 1 n) (faultFrom number s n (suc w) k) e in
+      split (λ x. s x v ≡ true) u w (row-holds w 1 n (both .0) v (b .low) (omega (arith, b .high)))
+      (λ l. rows-hold n (suc w) k (both .1) u v l (omega arith) b) h
+
+-- contents without a fault
+module _ (n : ℕ) (t : Tables) (none : contentsOn n t .number ≡ 0) where
+  neither : (firstFault n t .number ≡ 0) × (firstUntimely n t .number ≡ 0)
+  unfolding contentsOn
+  neither = or-none (firstFault n t) (firstUntimely n t) none
+
+  module _ (u v : ℕ) (a : Node n u) (b : Node n v) where
+    contents-pair : pairAt n t u v ≡ true
+    contents-pair =
+        rows-hold 2 (λ e. omega arith) (pairAt n t) n 1 n (unfold firstFault in neither .0) u v (a .low) (omega (arith, a .high)) b
+
+    contents-timely : timelyAt n t u v ≡ true
+    contents-timely =
+        rows-hold 18 (λ e. omega arith) (timelyAt n t) n 1 n (unfold firstUntimely in neither .1) u v (a .low) (omega (arith, a .high)) b
 
 module _ (n : ℕ) (t : Tables) (sound : checkOn n t .number ≡ 0) where
-  both : (sized n t ≡ true) × (firstFault n t .number ≡ 0)
+  both : (sized n t ≡ true) × (contentsOn n t .number ≡ 0)
   both = go (choice (sized n t)) (unfold checkOn in sound)
     where
-      go : Choice (sized n t) → cond (sized n t) (firstFault n t) (why 1 0 0) .number ≡ 0 → (sized n t ≡ true) × (firstFault n t .number ≡ 0)
+      go : Choice (sized n t) → cond (sized n t) (contentsOn n t) (why 1 0 0) .number ≡ 0 → (sized n t ≡ true) × (contentsOn n t .number ≡ 0)
       go (yes! q) e = (q, rw q at e)
       go (no! q) e = let z : _≡_ {A = ℕ} 1 0 = rw q at e in absurd (omega arith)
 
@@ -96,5 +110,7 @@ module _ (n : ℕ) (t : Tables) (sound : checkOn n t .number ≡ 0) where
   sound-sized = sized-is n t (both .0)
 
   pub sound-pair : (u v : ℕ) → Node n u → Node n v → pairAt n t u v ≡ true
-  sound-pair u v a b =
-      rows-hold (pairAt n t) n 1 n (unfold firstFault in both .1) u v (a .low) (omega (arith, a .high)) b
+  sound-pair = contents-pair n t (both .1)
+
+  pub timely-pair : (u v : ℕ) → Node n u → Node n v → timelyAt n t u v ≡ true
+  timely-pair = contents-timely n t (both .1)

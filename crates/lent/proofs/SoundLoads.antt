@@ -1,4 +1,4 @@
--- Tables of 32-bit words that pass the check load to a sound network, which holds nothing beyond node n.
+-- Tables of 32-bit words that pass the check load to a sound network, which holds nothing beyond node n and whose times make sense.
 -- Assumes that every word is below 2 to the power 32 (`Words`).
 use Prim.Native.Nat.{ℕ, zero, suc, _+_, _-_, _*_, _^_, _<_, _≤_}
 use native.Mathlib.Omega.{arith}
@@ -8,20 +8,21 @@ use mathlib.Core.Logic.{_⊎_, inl, inr}
 use mathlib.Core.Path.{_≡_, refl, sym, ap, _∙_}
 use lib.Dec.{eqb, leb, ltb}
 use lib.ListN.{getD, length, drop}
-use lib.Seq.{getD-take, getD-drop}
 use borrow.Author.Tests.{eq-eqb, ne-eqb, le-leb, ltb-true, ltb-false}
 use Rattle.basics.proofs.FunctionsLaws.{every-pair-all}
 use Rattle.basics.proofs.Tests.{clash, not-true-is-false, Choice, yes!, no!, choice, equal?, and-both}
 use Rattle.height.specs.Clock.{lastTime}
 use Rattle.height.specs.Height.{heightKey, zeroHeight}
 use Rattle.height.specs.Order.{same}
-use Rattle.height.specs.Words.{heightAt, deltaOf}
 use Rattle.height.proofs.OrderLaws.{same-refl}
 use Rattle.nodeset.specs.NodeSet.{member}
-use Rattle.pairs.specs.Pair.{viewSound}
+use Rattle.pairs.specs.Pair.{viewSound, timelyIn}
 use Rattle.pairs.proofs.HeldPairs.{OwnHolds}
+use Rattle.pairs.proofs.PairLaws.{zero-view, no-messages}
 use Rattle.protocol.specs.Holds.{heightHolds, isEmpty, ownHolds, viewHolds, channelHolds, pairHolds, sound}
 use Rattle.protocol.specs.Network.{Node, capacity, fresh, restrict}
+use Rattle.protocol.specs.Times.{pairTimely, timely}
+use Rattle.protocol.proofs.Channels.{empty-is}
 use Rattle.protocol.proofs.NodeLaws.{other-fails}
 use Rattle.protocol.proofs.Restrict.{pairs-is, nodes-is}
 use Rattle.tables.specs.Cell.{count, queue, messagesAt, allZero}
@@ -33,26 +34,9 @@ use Rattle.tables.specs.inner.Fit.{TablesFit}
 use Rattle.tables.proofs.CellLaws.{messages-length}
 use Rattle.tables.proofs.RowLaws.{height-past}
 use Rattle.tables.proofs.TablesLaws.{load-clock, load-neighbors, load-forming, load-height, load-channel, member-node}
-use Rattle.tables.proofs.WordRuns.{zero-at}
-use Rattle.lent.specs.Check.{checkOn}
+use Rattle.lent.specs.Check.{timelyAt, checkOn}
+use Rattle.lent.proofs.CheckLaws.{timely-pair}
 use Rattle.lent.proofs.SoundTables.{Words, row-word, sound-own, sound-view, sound-channel}
-
--- ---- zero words
-
--- a part of seven zero words is the zero height
-zero-view : (row : List ℕ) (v : ℕ) → 1 ≤ v → allZero (part (3 + (v - 1) * 7) 7 row) ≡ true → heightIn row v ≡ zeroHeight
-unfolding heightIn heightAt deltaOf
-zero-view row zero l e = absurd (omega arith)
-zero-view row (suc k) l e =
-    let same! : suc k - 1 ≡ k = omega arith in
-    let at : (j : ℕ) → j < 7 → getD row (3 + k * 7 + j) 0 ≡ 0 =
-    λ j h. sym (getD-drop (3 + k * 7) row j 0) ∙ sym (getD-take 7 (drop (3 + k * 7) row) j 0 h) ∙ zero-at (part (3 + k * 7) 7 row) (rw same! at e) j in
-    let first : getD row (3 + k * 7) 0 ≡ 0 = ap (λ (i : ℕ). getD row i 0) (omega arith) ∙ at 0 (omega arith) in
-    rw (first, at 1 (omega arith), at 2 (omega arith), at 3 (omega arith), at 4 (omega arith), at 5 (omega arith), at 6 (omega arith))
-
-no-messages : (cell : List ℕ) → count cell ≡ 0 → isEmpty (queue cell) ≡ true
-unfolding queue messagesAt
-no-messages cell e = rw e
 
 -- ---- the pairs
 
@@ -70,7 +54,7 @@ module _ (n : ℕ) (t : Tables) (words : Words t) (passes : checkOn n t .number 
   own-loads =
       rw (load-clock n t u a, load-neighbors n t u a, load-forming n t u a, load-height n t u a, load-channel n t u a u a)
       (and-both (and-both (and-both clock-le (own .sets)) (own .height))
-      (no-messages (channelOf n u u (t .channels)) (zero-at (channelOf n u u (t .channels)) (own .unused) 0)))
+      (empty-is (queue (channelOf n u u (t .channels))) (no-messages (channelOf n u u (t .channels)) (own .unused))))
 
   module _ (v : ℕ) (b : Node n v) (differ : u ≡ v → ⊥) where
     view-loads : viewHolds n (load n t) u v ≡ true
@@ -122,6 +106,14 @@ module _ (n : ℕ) (t : Tables) (words : Words t) (passes : checkOn n t .number 
   pub sound-loads : sound n (load n t) ≡ true
   unfolding sound
   sound-loads = every-pair-all n (pairHolds n (load n t)) λ u l h v m k. pair-loads u v (record { low = l; high = h }) (record { low = m; high = k })
+
+  timely-loads-at : (u v : ℕ) → Node n u → Node n v → pairTimely (load n t) u v ≡ true
+  unfolding pairTimely timelyAt timelyIn
+  timely-loads-at u v a b = rw (load-clock n t u a, load-height n t u a, load-channel n t u a v b) (timely-pair n t passes u v a b)
+
+  pub timely-loads : timely n (load n t) ≡ true
+  unfolding timely
+  timely-loads = every-pair-all n (pairTimely (load n t)) λ u l h v m k. timely-loads-at u v (record { low = l; high = h }) (record { low = m; high = k })
 
 -- ---- nothing beyond node n
 

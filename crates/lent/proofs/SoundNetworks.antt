@@ -1,11 +1,11 @@
--- The tables of a sound network pass the check.
+-- The tables of a sound network whose times make sense pass the check.
 -- Assumes that the network's numbers fit in words (`Storable`).
 use Prim.Native.Nat.{ℕ, zero, suc, _+_, _-_, _*_, _≤_}
 use native.Mathlib.Omega.{arith}
 use mathlib.Core.Bool.{Bool, true, false, not, cond, _&&_, _||_}
 use mathlib.Core.List.{List, [], _∷_, _++_, map}
 use mathlib.Core.Logic.{_⊎_, inl, inr}
-use mathlib.Core.Path.{_≡_, refl, ap, _∙_}
+use mathlib.Core.Path.{_≡_, refl, sym, ap, _∙_}
 use lib.Dec.{eqb, leb}
 use lib.ListN.{length, take, drop, replicate, length-map}
 use lib.Seq.{drop-append-add}
@@ -18,9 +18,11 @@ use Rattle.height.specs.Height.{zeroHeight}
 use Rattle.height.specs.Words.{heightWords, deltaWord}
 use Rattle.nodeset.specs.NodeSet.{member, setOf, within}
 use Rattle.nodeset.proofs.Members.{member-setOf, setOf-lt, lt-within}
-use Rattle.pairs.specs.Pair.{ownSound, viewSound, channelSound, pairSound}
+use Rattle.pairs.specs.Pair.{ownSound, viewSound, channelSound, pairSound, timelyIn}
 use Rattle.protocol.specs.Holds.{heightHolds, messageHolds, notInBoth, setsHold, isEmpty, ownHolds, viewHolds, channelHolds, pairHolds, sound}
 use Rattle.protocol.specs.Network.{Node, Message, Network, upTo, capacity}
+use Rattle.protocol.specs.Times.{pairTimely, timely}
+use Rattle.protocol.proofs.Channels.{is-empty}
 use Rattle.protocol.proofs.Ranges.{zero-height}
 use Rattle.refusal.specs.Refusal.{why}
 use Rattle.tables.specs.Cell.{count, messageWords, allZero}
@@ -30,41 +32,10 @@ use Rattle.tables.specs.Row.{neighborsIn, formingIn, heightIn}
 use Rattle.tables.specs.Rows.{part, rowAt, rows}
 use Rattle.tables.specs.Tables.{sized}
 use Rattle.tables.proofs.Back.{Storable, node-of, cell-of, node-height, queue-back, tables-sized}
-use Rattle.tables.proofs.RecordsLaws.{Eights, words-length, message-words}
+use Rattle.tables.proofs.RecordsLaws.{words-length, message-words, unused-zero}
 use Rattle.tables.proofs.RowsMore.{rows-at}
-use Rattle.lent.specs.Check.{pairAt, faultInRow, faultFrom, firstFault, checkOn}
+use Rattle.lent.specs.Check.{pairAt, timelyAt, faultInRow, faultFrom, firstFault, firstUntimely, contentsOn, checkOn}
 use Rattle.lent.proofs.CheckLaws.{is-sized}
-
--- ---- zero words
-
-pub zeros : (k : ℕ) → allZero (replicate k 0) ≡ true
-unfolding allZero
-zeros zero = refl
-zeros (suc k) = zeros k
-
-zeros-append : (xs ys : List ℕ) → allZero xs ≡ true → allZero ys ≡ true → allZero (xs ++ ys) ≡ true
-unfolding allZero
-zeros-append [] ys h k = k
-zeros-append (x ∷ xs) ys h k = and-both (and-left (eqb x 0) (allZero xs) h) (zeros-append xs ys (and-right (eqb x 0) (allZero xs) h) k)
-
-slots-zero : (k : ℕ) → allZero (slotWords k []) ≡ true
-unfolding slotWords
-slots-zero zero = unfold allZero in refl
-slots-zero (suc k) = zeros-append (replicate 8 0) (slotWords k []) (zeros 8) (slots-zero k)
-
--- the words after the messages
-rest-zero : (k : ℕ) (ms : List (List ℕ)) → Eights ms → length ms ≤ k → allZero (drop (length ms * 8) (slotWords k ms)) ≡ true
-unfolding slotWords
-rest-zero k [] em l = slots-zero k
-rest-zero zero (m ∷ ms) em l = absurd (omega arith)
-rest-zero (suc k) (m ∷ ms) (more a em) l =
-    let e : suc (length ms) * 8 ≡ length m + length ms * 8 = omega (arith, a) in
-    rw (e, drop-append-add m (slotWords k ms) (length ms * 8)) (rest-zero k ms em (omega arith))
-
-unused-zero : (ms : List (List ℕ)) → Eights ms → length ms ≤ 8 → allZero (drop (1 + count (cellWords ms) * 8) (cellWords ms)) ≡ true
-unfolding cellWords
-unused-zero ms em l =
-    ap allZero (drop-append-add (length ms ∷ []) (slotWords 8 ms) (length ms * 8)) ∙ rest-zero 8 ms em l
 
 -- ---- the pairs
 
@@ -188,21 +159,21 @@ module _ (n : ℕ) (p : Network) (ok : Storable n p) (u : ℕ) (a : Node n u) wh
 
 -- ---- the check
 
-no-fault-row : (s : ℕ → ℕ → Bool) (n u v k : ℕ) → 1 ≤ v → v + k ≤ suc n → ((z : ℕ) → Node n z → s u z ≡ true) → faultInRow s u v k ≡ why 0 0 0
-unfolding faultInRow
-no-fault-row s n u v zero l h f = refl
-no-fault-row s n u v (suc k) l h f =
-    rw (f v (record { low = l; high = omega arith })) (no-fault-row s n u (suc v) k (omega arith) (omega arith) f)
+module _ (number : ℕ) (s : ℕ → ℕ → Bool) (n : ℕ) where
+  no-fault-row : (u v k : ℕ) → 1 ≤ v → v + k ≤ suc n → ((z : ℕ) → Node n z → s u z ≡ true) → faultInRow number s u v k ≡ why 0 0 0
+  unfolding faultInRow
+  no-fault-row u v zero l h f = refl
+  no-fault-row u v (suc k) l h f =
+      rw (f v (record { low = l; high = omega arith })) (no-fault-row u (suc v) k (omega arith) (omega arith) f)
 
-no-fault-from : (s : ℕ → ℕ → Bool) (n u k : ℕ) → 1 ≤ u → u + k ≤ suc n → ((x z : ℕ) → Node n x → Node n z → s x z ≡ true)
-    → faultFrom s n u k ≡ why 0 0 0
-unfolding faultFrom
-no-fault-from s n u zero l h f = refl
-no-fault-from s n u (suc k) l h f =
-    rw (no-fault-row s n u 1 n (omega arith) (omega arith) (λ z c. f u z (record { low = l; high = omega arith }) c))
-    (no-fault-from s n (suc u) k (omega arith) (omega arith) f)
+  no-fault-from : (u k : ℕ) → 1 ≤ u → u + k ≤ suc n → ((x z : ℕ) → Node n x → Node n z → s x z ≡ true) → faultFrom number s n u k ≡ why 0 0 0
+  unfolding faultFrom
+  no-fault-from u zero l h f = refl
+  no-fault-from u (suc k) l h f =
+      rw (no-fault-row u 1 n (omega arith) (omega arith) (λ z c. f u z (record { low = l; high = omega arith }) c))
+      (no-fault-from (suc u) k (omega arith) (omega arith) f)
 
-module _ (n : ℕ) (p : Network) (ok : Storable n p) (holds : sound n p ≡ true) (low : 1 ≤ n) (few : n ≤ 16) where
+module _ (n : ℕ) (p : Network) (ok : Storable n p) (holds : sound n p ≡ true) (times : timely n p ≡ true) (low : 1 ≤ n) (few : n ≤ 16) where
   at : (u v : ℕ) → Node n u → Node n v → pairHolds n p u v ≡ true
   unfolding sound
   at u v a b = every-pair-at n (pairHolds n p) holds u (a .low) (a .high) v (b .low) (b .high)
@@ -224,9 +195,37 @@ module _ (n : ℕ) (p : Network) (ok : Storable n p) (holds : sound n p ≡ true
           (and-both (view-back n p ok u a v b (and-left (viewHolds n p u v) (channelHolds n p u v) q))
           (channel-back n p ok u a v b (and-right (viewHolds n p u v) (channelHolds n p u v) q)))
 
+  -- at most 8 messages on a channel, none from a node to itself
+  short : (u v : ℕ) → Node n u → Node n v → length (p .channel u v) ≤ 8
+  unfolding pairHolds ownHolds channelHolds
+  short u v a b = go (equal? u v) (at u v a b)
+    where
+      go : (u ≡ v) ⊎ (u ≡ v → ⊥) → cond (eqb u v) (ownHolds n p u) (viewHolds n p u v && channelHolds n p u v) ≡ true → length (p .channel u v) ≤ 8
+      go (inl e) h =
+          let own = rw (eq-eqb u v e) at h in
+          let empty = is-empty (p .channel u u) (and-right (leb (p .clock u) 4294967295 && setsHold n u (p .neighbors u) (p .forming u) && heightHolds n u (p .height u u)) (isEmpty (p .channel u u)) own) in
+          omega (arith, ap (λ (x : ℕ). length (p .channel u x)) (sym e), ap length empty)
+      go (inr d) h =
+          let q : (viewHolds n p u v && channelHolds n p u v) ≡ true = rw (ne-eqb u v d) at h in
+          let channel = and-right (viewHolds n p u v) (channelHolds n p u v) q in
+          let c = leb (length (p .channel u v)) capacity in
+          let m = all (messageHolds n u) (p .channel u v) in
+          leb-true (length (p .channel u v)) capacity (and-left c m (and-left (c && m) (upTo p u v || isEmpty (p .channel u v)) channel))
+
+  timely-back : (u v : ℕ) → Node n u → Node n v → timelyAt n (tablesOf n p) u v ≡ true
+  unfolding timelyAt timelyIn
+  timely-back u v a b =
+      rw (node-of n p u a, cell-of n p u v a b, height-at n p ok u a v b, queue-back (p .channel u v) (ok .messages u v a b) (short u v a b))
+      (unfold rowWords recordsOf pairTimely timely in every-pair-at n (pairTimely p) times u (a .low) (a .high) v (b .low) (b .high))
+
   sizes : sized n (tablesOf n p) ≡ true
   sizes = is-sized n (tablesOf n p) (tables-sized n p low few)
 
   pub sound-check : checkOn n (tablesOf n p) ≡ why 0 0 0
-  unfolding checkOn firstFault
-  sound-check = rw sizes (no-fault-from (pairAt n (tablesOf n p)) n 1 n (omega arith) (omega arith) pair-back)
+  unfolding checkOn contentsOn firstFault firstUntimely
+  sound-check =
+      rw (
+        sizes,
+        no-fault-from 2 (pairAt n (tablesOf n p)) n 1 n (omega arith) (omega arith) pair-back,
+        no-fault-from 18 (timelyAt n (tablesOf n p)) n 1 n (omega arith) (omega arith) timely-back,
+      )

@@ -1,4 +1,5 @@
--- What the lent tables hold for a pair u, v (document 01, "Returned numbers"): its words break no rule of "What a station holds".
+-- What the lent tables hold for a pair u, v (document 01, "Returned numbers"): its words break no rule of "What a station holds" (`pairSound`), and its
+-- times make sense (`timelyIn`; document 02, [3]).
 -- The pair u, u has both sets, the own height and the unused cell (a clock may be any word); the pair u, v the view of v and channel u to v.
 use Prim.Native.Nat.{ℕ, _+_, _-_, _*_}
 use mathlib.Core.Bool.{Bool, cond, _&&_, _||_}
@@ -9,8 +10,9 @@ use Rattle.basics.specs.Functions.{all}
 use Rattle.nodeset.specs.NodeSet.{member, within}
 use Rattle.protocol.specs.Holds.{heightHolds, messageHolds, setsHold}
 use Rattle.protocol.specs.Network.{capacity}
+use Rattle.protocol.specs.Times.{timesWithin, messageTimely}
 use Rattle.tables.specs.Cell.{count, slot, queue, allZero}
-use Rattle.tables.specs.Row.{neighborsIn, formingIn, heightIn}
+use Rattle.tables.specs.Row.{clockIn, neighborsIn, formingIn, heightIn}
 use Rattle.tables.specs.Rows.{part}
 use Rattle.height.specs.Words.{heightSize}
 use Rattle.tables.specs.Tables.{rowHead}
@@ -33,3 +35,7 @@ channelSound n u v row cell =
 
 unfoldable pub pairSound : ℕ → ℕ → ℕ → List ℕ → List ℕ → Bool
 pairSound n u v row cell = cond (eqb u v) (ownSound n u row cell) (viewSound n v row && channelSound n u v row cell)
+
+-- u's own height (v = u) or its view of v, within u's clock; on channel u to v no stamp above that clock, no time above its stamp
+unfoldable pub timelyIn : ℕ → List ℕ → List ℕ → Bool
+timelyIn v row cell = timesWithin (clockIn row) (heightIn row v) && all (messageTimely (clockIn row)) (queue cell)

@@ -1,86 +1,223 @@
-// What the lent tables hold for a pair u, v, as a test.
+// What the lent tables hold for a pair u, v: whether its words break a rule, and whether its times make sense, found in one look.
 // These are leaves: only our crates call them, with the bounds that `requires` states.
 ghost use mathlib.Core.Path.{_≡_};
-ghost use Prim.Native.Nat.{_≤_};
+ghost use mathlib.Core.Bool.{false, _||_};
+ghost use Prim.Native.Nat.{_+_, _-_, _≤_};
+ghost use lib.Dec.{eqb};
 ghost use lib.ListN.{length};
 ghost use Rattle.basics.specs.Functions.{all};
+ghost use Rattle.height.specs.Words.{heightSize, heightAt};
 ghost use Rattle.nodeset.specs.NodeSet.{member};
-ghost use Rattle.protocol.specs.Holds.{messageHolds};
+ghost use Rattle.protocol.specs.Holds.{heightHolds, messageHolds};
 ghost use Rattle.protocol.specs.Network.{Node, capacity};
-ghost use Rattle.tables.specs.Cell.{slot, messagesAt};
-ghost use Rattle.tables.specs.Tables.{width, cellWidth};
-ghost use Rattle.pairs.specs.Pair.{ownSound, viewSound, channelSound, pairSound};
+ghost use Rattle.protocol.specs.Times.{timesWithin, messageTimely};
+ghost use Rattle.tables.specs.Cell.{slot, queue, messageAt, messagesAt};
+ghost use Rattle.tables.specs.Row.{clockIn, neighborsIn, formingIn, heightIn};
+ghost use Rattle.tables.specs.Tables.{rowHead, width, messageSize, cellWidth};
+ghost use Rattle.pairs.specs.Pair.{ownSound, viewSound, channelSound, pairSound, timelyIn};
+ghost use Rattle.pairs.specs.inner.Findings.{finding, joined, isFaulty, isTimely, keptOr};
+ghost use Rattle.pairs.specs.inner.ReadCell.{ReadCell};
+
+pub enum Finding {
+    Good,
+    Untimely, // no rule is broken, and a time is above what it may be (18)
+    Faulty, // a rule is broken (2)
+}
+
+// Both findings of one pair.
+pub fn both(a: Finding, b: Finding) -> Finding
+    ensures { λ r. ⌜ r ≡ joined a b ⌝ }
+{
+    match a {
+        Finding::Faulty => Finding::Faulty,
+        Finding::Good => b,
+        Finding::Untimely => match b {
+            Finding::Faulty => Finding::Faulty,
+            Finding::Good => Finding::Untimely,
+            Finding::Untimely => Finding::Untimely,
+        },
+    }
+}
+
+pub fn is_faulty(f: Finding) -> bool
+    ensures { λ r. ⌜ r ≡ isFaulty f ⌝ }
+{
+    match f {
+        Finding::Good => false,
+        Finding::Untimely => false,
+        Finding::Faulty => true,
+    }
+}
+
+// Not untimely: what is at fault is asked for first.
+pub fn is_timely(f: Finding) -> bool
+    ensures { λ r. ⌜ r ≡ isTimely f ⌝ }
+{
+    match f {
+        Finding::Good => true,
+        Finding::Untimely => false,
+        Finding::Faulty => true,
+    }
+}
+
+// The first untimely pair of a search; 0 0 while there is none.
+pub struct Late {
+    pub u: u32,
+    pub v: u32,
+}
+
+// The pair that was kept, or else u, v if it is untimely.
+pub fn kept_or(kept: Late, timely: bool, u: u32, v: u32) -> Late
+    ensures { λ r. ⌜ r ≡ keptOr kept timely u v ⌝ }
+{
+    if timely | (kept.u != 0) {
+        return kept;
+    }
+    Late { u, v }
+}
 
 // Node v is in the set, whatever the word's other bits are.
 fn is_member(word: u32, v: u32) -> bool
-    requires { ⌜ v ≤ 16 ⌝ }
+    requires { ⌜ (1 ≤ v) × (v ≤ 16) ⌝ }
     ensures { λ r. ⌜ r ≡ member word v ⌝ }
 {
-    nodeset::contains((word % 65536) as u16, v)
+    (word >> (v - 1)) % 2 == 1
+}
+
+// The height of node k whose words stand from `at`, held at this clock.
+fn height_at(n: u32, k: u32, clock: u32, words: &[u32], at: usize) -> Finding
+    requires { ⌜ at + heightSize ≤ length (now words) ⌝ }
+    ensures { λ r. ⌜ r ≡ finding (heightHolds n k (heightAt (now (words .entry)) at)) (timesWithin clock (heightAt (now (words .entry)) at)) ⌝ }
+{
+    if !holds::height_holds(n, k, words, at) {
+        return Finding::Faulty;
+    }
+    if holds::times_within(clock, words, at) {
+        return Finding::Good;
+    }
+    Finding::Untimely
 }
 
 // The pair u, u.
-pub fn own_sound(n: u32, u: u32, row: &[u32], cell: &[u32]) -> bool
+pub fn own(n: u32, u: u32, row: &[u32], cell: &[u32]) -> Finding
     requires { ⌜ (n ≤ 16) × Node n u × (length (now row) ≡ width n) × (length (now cell) ≡ cellWidth) ⌝ }
-    ensures { λ r. ⌜ r ≡ ownSound n u (now (row .entry)) (now (cell .entry)) ⌝ }
+    ensures { λ r. ⌜ r ≡ finding (ownSound n u (now (row .entry)) (now (cell .entry))) (timelyIn u (now (row .entry)) (now (cell .entry))) ⌝ }
 {
     let sets = holds::sets_hold(n, u, row[1], row[2]);
-    let own = holds::height_holds(n, u, tables::rows::height_in(n, row, u));
     let unused = tables::cells::all_zero(cell);
-    sets & own & unused
+    if sets & unused {
+        return height_at(n, u, row[0], row, tables::rows::height_start(u));
+    }
+    Finding::Faulty
 }
 
 // The view of v.
-pub fn view_sound(n: u32, v: u32, row: &[u32]) -> bool
+pub fn view(n: u32, v: u32, row: &[u32]) -> Finding
     requires { ⌜ (n ≤ 16) × Node n v × (length (now row) ≡ width n) ⌝ }
-    ensures { λ r. ⌜ r ≡ viewSound n v (now (row .entry)) ⌝ }
+    ensures { λ r. ⌜ r ≡ finding (viewSound n v (now (row .entry)))
+        (timesWithin (clockIn (now (row .entry))) (heightIn (now (row .entry)) v)) ⌝ }
 {
-    if is_member(row[1], v) {
-        return holds::height_holds(n, v, tables::rows::height_in(n, row, v));
-    }
     let a = tables::rows::height_start(v);
+    if is_member(row[1], v) {
+        return height_at(n, v, row[0], row, a);
+    }
     let e = a + tables::HEIGHT_SIZE;
-    tables::cells::all_zero(&row[a..e])
+    if tables::cells::all_zero(&row[a..e]) {
+        return Finding::Good;
+    }
+    Finding::Faulty
 }
 
-// The first `count` messages of a cell, of node u's.
-fn messages_hold(n: u32, u: u32, cell: &[u32], count: usize) -> bool
-    requires { ⌜ (count ≤ capacity) × (length (now cell) ≡ cellWidth) ⌝ }
-    ensures { λ r. ⌜ r ≡ all (messageHolds n u) (messagesAt count (now (cell .entry)) (slot 0)) ⌝ }
+// The message whose words stand from `at`, on a channel from a node whose clock this is.
+fn message_timely(clock: u32, cell: &[u32], at: usize) -> bool
+    requires { ⌜ at + messageSize ≤ length (now cell) ⌝ }
+    ensures { λ r. ⌜ r ≡ messageTimely clock (messageAt (now (cell .entry)) at) ⌝ }
 {
-    let mut k = 0;
+    let stamp = cell[at + tables::HEIGHT_SIZE];
+    (stamp <= clock) & holds::times_within(stamp, cell, at)
+}
+
+// What is left of a cell's first `count` messages behind an untimely one: only the rules still count.
+fn rest(n: u32, u: u32, cell: &[u32], from: usize, count: usize) -> Finding
+    requires { ⌜ (from ≤ count) × (count ≤ capacity) × (length (now cell) ≡ cellWidth) ⌝ }
+    ensures { λ r. ⌜ r ≡ finding (all (messageHolds n u) (messagesAt (count - from) (now (cell .entry)) (slot from))) false ⌝ }
+{
+    let mut k = from;
     while k < count {
-        let h = tables::cells::nth_height(cell, k);
-        if !holds::height_holds(n, u, h) {
-            return false;
+        if !holds::height_holds(n, u, cell, tables::cells::slot_start(k)) {
+            return Finding::Faulty;
         }
         k += 1;
     }
-    true
+    Finding::Untimely
+}
+
+// The first `count` messages of a cell, of node u's, whose clock this is.
+fn messages(n: u32, u: u32, clock: u32, cell: &[u32], count: usize) -> Finding
+    requires { ⌜ (count ≤ capacity) × (length (now cell) ≡ cellWidth) ⌝ }
+    ensures { λ r. ⌜ r ≡ finding (all (messageHolds n u) (messagesAt count (now (cell .entry)) (slot 0)))
+        (all (messageTimely clock) (messagesAt count (now (cell .entry)) (slot 0))) ⌝ }
+{
+    let mut k = 0;
+    while k < count {
+        let at = tables::cells::slot_start(k);
+        if !holds::height_holds(n, u, cell, at) {
+            return Finding::Faulty;
+        }
+        if !message_timely(clock, cell, at) {
+            return rest(n, u, cell, k + 1, count);
+        }
+        k += 1;
+    }
+    Finding::Good
+}
+
+// v is in one of the sets of a row, or nothing waits.
+fn is_up_or_empty(row: &[u32], v: u32, waiting: u32) -> bool
+    requires { ⌜ (1 ≤ v) × (v ≤ 16) × (rowHead ≤ length (now row)) ⌝ }
+    ensures { λ r. ⌜ r ≡ (member (neighborsIn (now (row .entry))) v || member (formingIn (now (row .entry))) v || eqb waiting 0) ⌝ }
+{
+    is_member(row[1], v) | is_member(row[2], v) | (waiting == 0)
 }
 
 // Channel u to v, beside u's row.
-pub fn channel_sound(n: u32, u: u32, v: u32, row: &[u32], cell: &[u32]) -> bool
+pub fn channel(n: u32, u: u32, v: u32, row: &[u32], cell: &[u32]) -> Finding
     requires { ⌜ (n ≤ 16) × Node n v × (length (now row) ≡ width n) × (length (now cell) ≡ cellWidth) ⌝ }
-    ensures { λ r. ⌜ r ≡ channelSound n u v (now (row .entry)) (now (cell .entry)) ⌝ }
+    ensures { λ r. ⌜ r ≡ finding (channelSound n u v (now (row .entry)) (now (cell .entry)))
+        (all (messageTimely (clockIn (now (row .entry)))) (queue (now (cell .entry)))) ⌝ }
 {
     let waiting = tables::cells::waiting(cell);
     let count = waiting as usize;
     if tables::CAPACITY < count {
-        return false;
+        return Finding::Faulty;
     }
-    let fits = is_member(row[1], v) | is_member(row[2], v) | (waiting == 0);
-    let held = messages_hold(n, u, cell, count);
-    fits & held & tables::cells::is_unused_after(cell, count)
+    let fits = is_up_or_empty(row, v, waiting);
+    if fits & tables::cells::is_unused_after(cell, count) {
+        return messages(n, u, row[0], cell, count);
+    }
+    Finding::Faulty
 }
 
-// The pair u, v.
-pub fn pair_sound(n: u32, u: u32, v: u32, row: &[u32], cell: &[u32]) -> bool
-    requires { ⌜ (n ≤ 16) × Node n u × Node n v × (length (now row) ≡ width n) × (length (now cell) ≡ cellWidth) ⌝ }
-    ensures { λ r. ⌜ r ≡ pairSound n u v (now (row .entry)) (now (cell .entry)) ⌝ }
+// The same of a cell that was read: what comes after its messages need not be looked at.
+fn read_channel(n: u32, u: u32, v: u32, row: &[u32], cell: &[u32]) -> Finding
+    requires { ⌜ (n ≤ 16) × Node n v × (length (now row) ≡ width n) × (length (now cell) ≡ cellWidth) × ReadCell (now cell) ⌝ }
+    ensures { λ r. ⌜ r ≡ finding (channelSound n u v (now (row .entry)) (now (cell .entry)))
+        (all (messageTimely (clockIn (now (row .entry)))) (queue (now (cell .entry)))) ⌝ }
+{
+    let waiting = tables::cells::waiting(cell);
+    if is_up_or_empty(row, v, waiting) {
+        return messages(n, u, row[0], cell, waiting as usize);
+    }
+    Finding::Faulty
+}
+
+// The pair u, v, with a cell that was read.
+pub fn read_pair(n: u32, u: u32, v: u32, row: &[u32], cell: &[u32]) -> Finding
+    requires { ⌜ (n ≤ 16) × Node n u × Node n v × (length (now row) ≡ width n) × (length (now cell) ≡ cellWidth) × ReadCell (now cell) ⌝ }
+    ensures { λ r. ⌜ r ≡ finding (pairSound n u v (now (row .entry)) (now (cell .entry))) (timelyIn v (now (row .entry)) (now (cell .entry))) ⌝ }
 {
     if u == v {
-        return own_sound(n, u, row, cell);
+        return own(n, u, row, cell);
     }
-    view_sound(n, v, row) & channel_sound(n, u, v, row, cell)
+    both(view(n, v, row), read_channel(n, u, v, row, cell))
 }

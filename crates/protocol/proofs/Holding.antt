@@ -1,5 +1,5 @@
 -- A network passes every test of Holds.antt (`sound-holds`) and of Times.antt (`timely-holds`).
--- Assumes that it is sound, by facts (Soundness.antt), and for the second also that it keeps the invariant.
+-- Assumes that it is so by facts (`Fits` of Soundness.antt, `Timed` of Timed.antt).
 use Prim.Native.Nat.{ℕ}
 use mathlib.Core.Bool.{true, not, cond, _&&_, _||_, and-false}
 use mathlib.Core.List.{List, [], _∷_}
@@ -21,10 +21,10 @@ use Rattle.protocol.specs.Holds.{heightHolds, messageHolds, notInBoth, s
 use Rattle.protocol.specs.Network.{Node, Message, Network, upTo, capacity}
 use Rattle.protocol.specs.Times.{timesWithin, messageTimely, pairTimely, timely}
 use Rattle.protocol.proofs.Channels.{empty-is}
-use Rattle.protocol.proofs.Invariant.{PostedBy, Inv}
 use Rattle.protocol.proofs.Ranges.{negated-le, height-holds}
 use Rattle.protocol.proofs.RuleLaws.{Bounded}
 use Rattle.protocol.proofs.Soundness.{MessageFits, Fits, diagonal}
+use Rattle.protocol.proofs.Timed.{Stamped, Timed}
 
 -- ---- messages
 
@@ -39,12 +39,12 @@ within : (c : ℕ) (h : Height) → Bounded c h → timesWithin c h ≡ true
 unfolding timesWithin
 within c h b = and-both (le-leb (h .level .tau .0) c (b .tau-le)) (rw (b .nlts-is) (negated-le c (b .election) (b .election-le)))
 
-messages-timely : (u c : ℕ) (ms : List Message) → AllOf (PostedBy c u) ms → all (messageTimely c) ms ≡ true
+messages-timely : (c : ℕ) (ms : List Message) → AllOf (Stamped c) ms → all (messageTimely c) ms ≡ true
 unfolding all messageTimely
-messages-timely u c [] posted = refl
-messages-timely u c (m ∷ ms) (more s posted) =
+messages-timely c [] stamped = refl
+messages-timely c (m ∷ ms) (more s stamped) =
     and-both (and-both (le-leb (m .timestamp) c (s .timestamp-le)) (within (m .timestamp) (m .height) (s .bounded)))
-    (messages-timely u c ms posted)
+    (messages-timely c ms stamped)
 
 -- ---- pairs
 
@@ -101,8 +101,8 @@ module _ (n : ℕ) (p : Network) (fits : Fits n p) where
   unfolding sound
   sound-holds = every-pair-all n (pairHolds n p) (λ u l k v i j. pair-holds u v (record { low = l; high = k }))
 
-pub timely-holds : (n : ℕ) (p : Network) → Inv n p → Fits n p → timely n p ≡ true
+pub timely-holds : (n : ℕ) (p : Network) → Timed p → timely n p ≡ true
 unfolding timely pairTimely
-timely-holds n p inv fits =
-    every-pair-all n (pairTimely p) (λ u l k v i j. and-both (within (p .clock u) (p .height u v) (inv .nodes u .times v))
-    (messages-timely u (p .clock u) (p .channel u v) (inv .posted u v)))
+timely-holds n p timed =
+    every-pair-all n (pairTimely p) (λ u l k v i j. and-both (within (p .clock u) (p .height u v) (timed .heights u v))
+    (messages-timely (p .clock u) (p .channel u v) (timed .messages u v)))

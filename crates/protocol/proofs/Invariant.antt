@@ -1,12 +1,11 @@
 -- The invariant `Inv`, which holds of every network grown from the fresh one (Good.antt), and what an event has to show to keep it.
-use Prim.Native.Nat.{ℕ, _≤_}
-use native.Mathlib.Omega.{arith}
+use Prim.Native.Nat.{ℕ}
 use mathlib.Core.Bool.{Bool, true, false}
 use mathlib.Core.List.{List}
 use mathlib.Core.Logic.{inl, inr}
 use mathlib.Core.Path.{_≡_, refl, sym, _∙_}
 use Rattle.basics.specs.Functions.{update}
-use Rattle.basics.proofs.AllOf.{AllOf, all-weaker}
+use Rattle.basics.proofs.AllOf.{AllOf}
 use Rattle.basics.proofs.FunctionsLaws.{update-at, update-off, row-at, row-off}
 use Rattle.basics.proofs.Tests.{SameOrNot, equal?}
 use Rattle.height.specs.declared.Height.{Height}
@@ -15,17 +14,13 @@ use Rattle.protocol.specs.Sink.{sink}
 use Rattle.protocol.specs.Step.{Local, post, commit}
 use Rattle.protocol.proofs.Channels.{post-all}
 use Rattle.protocol.proofs.LinkLaws.{Side, Link, flip, drained}
-use Rattle.protocol.proofs.RuleLaws.{Bounded}
 
--- a message that u can have posted by the time c
-pub record PostedBy (c u : ℕ) (m : Message) : Type 0 where
-  pub timestamp-le : m .timestamp ≤ c
-  pub bounded : Bounded (m .timestamp) (m .height)
+-- a message of u's
+pub record PostedBy (u : ℕ) (m : Message) : Type 0 where
   pub sender : m .height .id ≡ u
 
--- node u, at the clock c
-pub record NodeInv (n u c : ℕ) (N F : ℕ → Bool) (row : ℕ → Height) : Type 0 where
-  pub times : (v : ℕ) → Bounded c (row v)
+-- node u
+pub record NodeInv (n u : ℕ) (N F : ℕ → Bool) (row : ℕ → Height) : Type 0 where
   pub awake : sink n N row u ≡ false
   pub mine : row u .id ≡ u
   pub seen : (v : ℕ) → N v ≡ true → row v .id ≡ v
@@ -42,14 +37,9 @@ sideOf p a b = record {
 }
 
 pub record Inv (n : ℕ) (p : Network) : Type 0 where
-  pub nodes : (u : ℕ) → NodeInv n u (p .clock u) (p .neighbors u) (p .forming u) (p .height u)
-  pub posted : (u v : ℕ) → AllOf (PostedBy (p .clock u) u) (p .channel u v)
+  pub nodes : (u : ℕ) → NodeInv n u (p .neighbors u) (p .forming u) (p .height u)
+  pub posted : (u v : ℕ) → AllOf (PostedBy u) (p .channel u v)
   pub links : (a b : ℕ) → (a ≡ b → ⊥) → Link (sideOf p a b) (sideOf p b a)
-
--- ---- messages
-
-posted-later : (c d u : ℕ) → c ≤ d → (m : Message) → PostedBy c u m → PostedBy d u m
-posted-later c d u l m s = record { timestamp-le = omega (arith, s .timestamp-le); bounded = s .bounded; sender = s .sender }
 
 -- ---- the network after an event at u that leaves l there, sent over the channels ch
 
@@ -82,22 +72,17 @@ module _ (p : Network) (u : ℕ) (l : Local) (ch : ℕ → ℕ → List Message)
   unfolding commit drained
   side-off a b d = simp row-off
 
-  commit-nodes : (n : ℕ) → Inv n p → NodeInv n u (l .clock) (l .neighbors) (l .forming) (l .row)
-      → (a : ℕ) → SameOrNot a u → NodeInv n a (after .clock a) (after .neighbors a) (after .forming a) (after .height a)
+  commit-nodes : (n : ℕ) → Inv n p → NodeInv n u (l .neighbors) (l .forming) (l .row)
+      → (a : ℕ) → SameOrNot a u → NodeInv n a (after .neighbors a) (after .forming a) (after .height a)
   unfolding commit
   commit-nodes n inv settled a (inl e) = simp (e, update-at) settled
   commit-nodes n inv settled a (inr d) = simp update-off (inv .nodes a)
 
-  commit-posted : (n : ℕ) → NodeInv n u (l .clock) (l .neighbors) (l .forming) (l .row) → p .clock u ≤ l .clock
-      → ((a b : ℕ) → AllOf (PostedBy (p .clock a) a) (ch a b)) → (a b : ℕ) → SameOrNot a u
-      → AllOf (PostedBy (after .clock a) a) (after .channel a b)
+  commit-posted : l .row u .id ≡ u → ((a b : ℕ) → AllOf (PostedBy a) (ch a b)) → (a b : ℕ) → SameOrNot a u → AllOf (PostedBy a) (after .channel a b)
   unfolding commit news
-  commit-posted n settled moved posted a b (inl e) =
-      let s : PostedBy (l .clock) u news = record { timestamp-le = omega arith; bounded = settled .times u; sender = settled .mine } in
-      let k : AllOf (PostedBy (l .clock) u) (ch u b) =
-      all-weaker (PostedBy (p .clock u) u) (PostedBy (l .clock) u) (posted-later (p .clock u) (l .clock) u moved) (ch u b) (posted u b) in
-      simp (e, row-at, update-at) (post-all (PostedBy (l .clock) u) (l .sent b) news (ch u b) s k)
-  commit-posted n settled moved posted a b (inr d) = simp (row-off, update-off) (posted a b)
+  commit-posted mine posted a b (inl e) =
+      simp (e, row-at) (post-all (PostedBy u) (l .sent b) news (ch u b) (record { sender = mine }) (posted u b))
+  commit-posted mine posted a b (inr d) = simp row-off (posted a b)
 
   commit-links : (n : ℕ) → Inv n p
       → ((a b : ℕ) → (a ≡ u → ⊥) → (b ≡ u → ⊥) → ch a b ≡ p .channel a b)
@@ -115,16 +100,15 @@ module _ (p : Network) (u : ℕ) (l : Local) (ch : ℕ → ℕ → List Message)
       go (inr d) (inl e) = rw e (flip (sideOf after u a) (sideOf after a u) (at-u a d))
       go (inr d) (inr f) = rw (side-off a b d, side-off b a f, elsewhere a b d f, elsewhere b a f d) (inv .links a b ne)
 
-  -- what is left to show of an event: its node, the clock, the channels before it sends, and the links of its node
-  pub commit-inv : (n : ℕ) → Inv n p → NodeInv n u (l .clock) (l .neighbors) (l .forming) (l .row)
-      → p .clock u ≤ l .clock
-      → ((a b : ℕ) → AllOf (PostedBy (p .clock a) a) (ch a b))
+  -- what is left to show of an event: its node, the channels before it sends, and the links of its node
+  pub commit-inv : (n : ℕ) → Inv n p → NodeInv n u (l .neighbors) (l .forming) (l .row)
+      → ((a b : ℕ) → AllOf (PostedBy a) (ch a b))
       → ((a b : ℕ) → (a ≡ u → ⊥) → (b ≡ u → ⊥) → ch a b ≡ p .channel a b)
       → ((b : ℕ) → (b ≡ u → ⊥) → LinkAfter b)
       → Inv n (commit p u l ch)
-  commit-inv n inv settled moved posted elsewhere around = record {
+  commit-inv n inv settled posted elsewhere around = record {
     nodes = λ a. commit-nodes n inv settled a (equal? a u);
-    posted = λ a b. commit-posted n settled moved posted a b (equal? a u);
+    posted = λ a b. commit-posted (settled .mine) posted a b (equal? a u);
     links = commit-links n inv elsewhere around;
   }
 

@@ -1,10 +1,8 @@
 -- An event at a node with another: what its rule has to show so that the invariant is kept.
-use Prim.Native.Nat.{ℕ, suc, _≤_}
-use native.Mathlib.Omega.{arith}
+use Prim.Native.Nat.{ℕ}
 use mathlib.Core.Bool.{Bool, true, false}
 use mathlib.Core.Logic.{inl, inr}
 use mathlib.Core.Path.{_≡_, refl, sym, _∙_}
-use lib.IntN.{pos}
 use borrow.Author.Tests.{eq-eqb, ne-eqb}
 use Rattle.basics.specs.Functions.{update}
 use Rattle.basics.proofs.FunctionsLaws.{update-at, update-off, update-all}
@@ -18,7 +16,6 @@ use Rattle.protocol.proofs.Channels.{cleared-off, cleared-is, cleared-a
 use Rattle.protocol.proofs.Invariant.{PostedBy, NodeInv, sideOf, Inv, news, LinkAfter, commit-inv, SameBut}
 use Rattle.protocol.proofs.LinkLaws.{Informed, tells, silent, spoken, speak, drained}
 use Rattle.protocol.proofs.RuleCases.{downCases, Sending, toAll, toOne, toNone, Kept}
-use Rattle.protocol.proofs.RuleLaws.{Bounded, later}
 
 -- what w hears of the rule at u, w not the event's own v
 informed : (v : ℕ) (old h : Height) (r : Rule) → Sending v old h r → (w : ℕ) (b : Bool) → (w ≡ v → ⊥) → Informed old h (sends v r w b) b
@@ -30,10 +27,6 @@ pub informed-v : (v : ℕ) (old h : Height) (r : Rule) → Sending v old h r →
 informed-v v old h r (toAll f) = tells (f v true)
 informed-v v old h r (toOne e f) = tells (f v true ∙ eq-eqb v v refl)
 informed-v v old h r (toNone e f) = silent (f v true) e
-
--- heights without a time
-pub unstarted : (c : ℕ) (h : Height) → h .level .tau .0 ≡ 0 → h .pair .nlts .0 ≡ pos 0 → Bounded c h
-unstarted c h t e = record { tau-le = omega arith; election = 0; nlts-is = e; election-le = omega arith }
 
 -- after a down nothing goes to v
 pub down-silent : (n u v : ℕ) (N : ℕ → Bool) (row : ℕ → Height) → sends v (downRule n N row u) v false ≡ false
@@ -56,21 +49,12 @@ module _ (e : Event) where
   v = peer e
 
   module _ (n : ℕ) (p : Network) (inv : Inv n p) (other : u ≡ v → ⊥) where
-    -- u's sets and heights before the rule, and the clock c before it moves on
-    pub record Changed (N F : ℕ → Bool) (row : ℕ → Height) (c : ℕ) : Type 0 where
-      pub moved : p .clock u ≤ c
+    -- u's sets and heights before the rule
+    pub record Changed (N F : ℕ → Bool) (row : ℕ → Height) : Type 0 where
       pub same : SameBut p u v N F row
-      pub timely : Bounded c (row v)
       pub sender : N v ≡ true → row v .id ≡ v
 
-    module _ (N F : ℕ → Bool) (row : ℕ → Height) (c : ℕ) (k : Changed N F row c) where
-      pub times : (w : ℕ) → Bounded c (row w)
-      times w = go (equal? w v)
-        where
-          go : SameOrNot w v → Bounded c (row w)
-          go (inl q) = rw q (k .timely)
-          go (inr d) = rw (k .same .sameH w d) (later (p .clock u) c (p .height u w) (k .moved) (inv .nodes u .times w))
-
+    module _ (N F : ℕ → Bool) (row : ℕ → Height) (k : Changed N F row) where
       pub seen : (w : ℕ) → N w ≡ true → row w .id ≡ w
       seen w i = go (equal? w v)
         where
@@ -87,24 +71,23 @@ module _ (e : Event) where
       pub selfF : F u ≡ false
       selfF = k .same .sameF u other ∙ inv .nodes u .selfF
 
-      pub carried-keeps : (r : Rule) → Kept n N row u v (suc c) r (heightAfter n N row u v (suc c) r)
-          → LinkAfter p u (carried n N F row u v (suc c) r) (cleared p e) v
-          → Inv n (commit p u (carried n N F row u v (suc c) r) (cleared p e))
+      pub carried-keeps : (t : ℕ) (r : Rule) → Kept n N row u v t r (heightAfter n N row u v t r)
+          → LinkAfter p u (carried n N F row u v t r) (cleared p e) v
+          → Inv n (commit p u (carried n N F row u v t r) (cleared p e))
       unfolding carried news drained spoken
-      carried-keeps r kept at-v =
-          commit-inv p u l (cleared p e) n inv settled (omega (arith, k .moved))
-          (λ a b. cleared-all (PostedBy (p .clock a) a) (p .channel a b) (cleared p e a b) (cleared-is p e a b) (inv .posted a b))
+      carried-keeps t r kept at-v =
+          commit-inv p u l (cleared p e) n inv settled
+          (λ a b. cleared-all (PostedBy a) (p .channel a b) (cleared p e a b) (cleared-is p e a b) (inv .posted a b))
           (λ a b d f. cleared-apart p e a b (λ q _. d q) (λ _ q. f q)) (λ b d. around b d (equal? b v))
         where
           l : Local
-          l = carried n N F row u v (suc c) r
+          l = carried n N F row u v t r
 
           h : Height
-          h = heightAfter n N row u v (suc c) r
+          h = heightAfter n N row u v t r
 
-          settled : NodeInv n u (suc c) N F (update row u h)
+          settled : NodeInv n u N F (update row u h)
           settled = record {
-            times = update-all (λ a x. Bounded (suc c) x) row u h (kept .bounded) (λ a d. later c (suc c) (row a) (omega arith) (times a));
             awake = kept .awake;
             mine = rw (update-at row u h) (kept .own);
             seen = update-all (λ a x. N a ≡ true → x .id ≡ a) row u h (λ i. clash i selfN) (λ a d. seen a);
@@ -124,6 +107,6 @@ module _ (e : Event) where
                 cleared-apart p e u b (λ _ q. f q) (λ q _. other q),
                 cleared-apart p e b u (λ q _. d q) (λ q _. f q),
               )
-              (speak (sideOf p u b) (sideOf p b u) (record { height = h; timestamp = suc c }) (sends v r b (upTo p u b))
+              (speak (sideOf p u b) (sideOf p b u) (record { height = h; timestamp = t }) (sends v r b (upTo p u b))
               (rw (k .same .sameH u other) at (kept .falls))
               (rw (k .same .sameH u other) at (informed v (row u) h r (kept .sending) b (upTo p u b) f)) (inv .links u b (λ q. d (sym q))))

@@ -1,10 +1,11 @@
 -- Laws and theorems about one event; a file uses only those above it.
--- Said, SoundStep, Locality and Cases hold the results, the others lead to them.
+-- Said, SoundStep, TimelyStep, HeightMoves, Locality and Cases hold the results, the others lead to them.
 pub mod Said
 pub mod NodeLaws
 pub mod Channels
 pub mod RuleLaws
 pub mod RuleCases
+pub mod Timed
 pub mod LinkLaws
 pub mod Invariant
 pub mod Accepted
@@ -17,5 +18,8 @@ pub mod StepFits
 pub mod Restrict
 pub mod Holding
 pub mod SoundStep
+pub mod TimedStep
+pub mod TimelyStep
+pub mod HeightMoves
 pub mod Locality
 pub mod Cases

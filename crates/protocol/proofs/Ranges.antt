@@ -56,7 +56,7 @@ negated-le zero (suc e) h = absurd (omega arith)
 negated-le (suc c) zero h = refl
 negated-le (suc c) (suc e) h = le-leb e c (omega arith)
 
-negated-low : (e : ℕ) → leZ (negℤ (pos e)) (pos 0) ≡ true
+pub negated-low : (e : ℕ) → leZ (negℤ (pos e)) (pos 0) ≡ true
 negated-low zero = refl
 negated-low (suc e) = refl
 

@@ -137,7 +137,7 @@ module _ (n : ℕ) (N : ℕ → Bool) (row : ℕ → Height) (u v c : ℕ) (st :
   }
   fits-receipt inside views r (isR e) ok = own
   fits-receipt inside views r (isQ le ge e) ok = own
-  fits-receipt inside views r (isF le t e) ok =
+  fits-receipt inside views r (isF s le t e) ok =
       let l = views v inside .level in
       record {
         level = record {
@@ -151,9 +151,9 @@ module _ (n : ℕ) (N : ℕ → Bool) (row : ℕ → Height) (u v c : ℕ) (st :
         pair = own .pair;
         id = refl;
       }
-  fits-receipt inside views r (isE le) ok = fits-E
-  fits-receipt inside views r (isS le) ok = fits-S
-  fits-receipt inside views r (isP le f) ok =
+  fits-receipt inside views r (isE s le) ok = fits-E
+  fits-receipt inside views r (isS s le) ok = fits-S
+  fits-receipt inside views r (isP s le f) ok =
       let ds = deltas n N row (largest n N row) in
       let high = smallest-high ds (deltas-high n N row (largest n N row) (λ w i. views w i .delta .high)) in
       record {

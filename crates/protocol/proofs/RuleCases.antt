@@ -31,10 +31,10 @@ pub data Verdict (n : ℕ) (N : ℕ → Bool) (row : ℕ → Height) (u v : ℕ)
   isA : before (pairKey (row v .pair)) (pairKey (row u .pair)) ≡ true → Verdict n N row u v (AdoptLpIfPriority v)
   isR : before (pairKey (row u .pair)) (pairKey (row v .pair)) ≡ true → Verdict n N row u v Reply
   isQ : PairLe (row u) (row v) → PairLe (row v) (row u) → sink n N row u ≡ false → Verdict n N row u v NoChange
-  isF : PairLe (row u) (row v) → 0 < row v .level .tau .0 → row v .level .r ≡ 0 → Verdict n N row u v ReflectRefLevel
-  isE : PairLe (row u) (row v) → Verdict n N row u v ElectSelf
-  isS : PairLe (row u) (row v) → Verdict n N row u v StartNewRefLevel
-  isP : PairLe (row u) (row v) → Found n (ofLevel N row (row v .level)) → Verdict n N row u v (PropagateLargestRefLevel (largest n N row))
+  isF : sink n N row u ≡ true → PairLe (row u) (row v) → 0 < row v .level .tau .0 → row v .level .r ≡ 0 → Verdict n N row u v ReflectRefLevel
+  isE : sink n N row u ≡ true → PairLe (row u) (row v) → Verdict n N row u v ElectSelf
+  isS : sink n N row u ≡ true → PairLe (row u) (row v) → Verdict n N row u v StartNewRefLevel
+  isP : sink n N row u ≡ true → PairLe (row u) (row v) → Found n (ofLevel N row (row v .level)) → Verdict n N row u v (PropagateLargestRefLevel (largest n N row))
 
 -- neither smaller, read off `same`; and the larger of two that differ
 same-parts : (xs ys : List ℤ) → same xs ys ≡ true → (before xs ys ≡ false) × (before ys xs ≡ false)
@@ -68,17 +68,17 @@ verdict n N row u v =
     l : ReferenceLevel
     l = row v .level
 
-    oneLevel : PairLe (row u) (row v) → G (oneLevelRule u l)
-    oneLevel le =
+    oneLevel : sink n N row u ≡ true → PairLe (row u) (row v) → G (oneLevelRule u l)
+    oneLevel s le =
         byCases G (ltb 0 (l .tau .0) && eqb (l .r) 0) ReflectRefLevel _
-        (λ e. isF le (ltb-true 0 _ (and-left _ (eqb (l .r) 0) e)) (eqb-true _ 0 (and-right (ltb 0 (l .tau .0)) _ e)))
-        (λ e. byCases G (eqb (l .r) 1 && eqb (l .oid) u) ElectSelf StartNewRefLevel (λ f. isE le) (λ f. isS le))
+        (λ e. isF s le (ltb-true 0 _ (and-left _ (eqb (l .r) 0) e)) (eqb-true _ 0 (and-right (ltb 0 (l .tau .0)) _ e)))
+        (λ e. byCases G (eqb (l .r) 1 && eqb (l .oid) u) ElectSelf StartNewRefLevel (λ f. isE s le) (λ f. isS s le))
 
     equals : PairLe (row u) (row v) → PairLe (row v) (row u) → G (equalPairsRule n N row u v)
     equals le ge =
         byCases G (not (sink n N row u)) NoChange _ (λ e. isQ le ge (not-true _ e))
         (λ s. byCases G (every n (ofLevel N row l)) (oneLevelRule u l) (PropagateLargestRefLevel (largest n N row))
-        (λ one. oneLevel le) (λ other. isP le (every-not n (ofLevel N row l) other)))
+        (λ one. oneLevel (not-false _ s) le) (λ other. isP (not-false _ s) le (every-not n (ofLevel N row l) other)))
 
 -- the rule after a down: E, or S where N has a member, or Q where u is no sink
 pub downCases : (n : ℕ) (N : ℕ → Bool) (row : ℕ → Height) (u : ℕ) (G : Rule → Type 0)
@@ -246,14 +246,14 @@ module _ (n : ℕ) (N : ℕ → Bool) (row : ℕ → Height) (u v c : ℕ) where
         back = λ z. clash (eq-eqb v v refl) z;
       }
       answered r (isQ le ge e) = record { kept = kept-Q e; reaches = le; back = λ z. ge }
-      answered r (isF le t e) = record { kept = kept-F e; reaches = le; back = λ z. clash refl z }
-      answered r (isE le) = record {
+      answered r (isF s le t e) = record { kept = kept-F e; reaches = le; back = λ z. clash refl z }
+      answered r (isE s le) = record {
         kept = kept-E;
         reaches = elected-below c (suc c) u (row v) (omega arith) (times v);
         back = λ z. clash refl z;
       }
-      answered r (isS le) = record { kept = kept-S v low high inside; reaches = le; back = λ z. clash refl z }
-      answered r (isP le f) = record { kept = kept-P f; reaches = le; back = λ z. clash refl z }
+      answered r (isS s le) = record { kept = kept-S v low high inside; reaches = le; back = λ z. clash refl z }
+      answered r (isP s le f) = record { kept = kept-P f; reaches = le; back = λ z. clash refl z }
 
     -- after a down: v has left N
     pub kept-down : Kept n N row u v (suc c) (downRule n N row u) (heightAfter n N row u v (suc c) (downRule n N row u))

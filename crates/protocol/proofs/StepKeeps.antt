@@ -21,14 +21,15 @@ use Rattle.protocol.specs.declared.Rule.the-variants.{Ignored, ChannelUp
 use Rattle.protocol.specs.declared.Rule.{Rule}
 use Rattle.protocol.proofs.Accepted.{Accepted}
 use Rattle.protocol.proofs.Invariant.{PostedBy, sideOf, Inv, news, LinkAfter, same-all, same-forming, same-updated}
-use Rattle.protocol.proofs.Kept.{informed-v, unstarted, down-silent, Changed, times, seen, mine, selfN, selfF, carried-keeps}
+use Rattle.protocol.proofs.Kept.{informed-v, down-silent, Changed, seen, mine, selfN, selfF, carried-keeps}
 use Rattle.protocol.proofs.LinkLaws.{Half, Link, raised, raise, dropped, drop, drained, ignore, heard, hear}
 use Rattle.protocol.proofs.RuleCases.{verdict, toOne, toNone, Kept, Answered, kept-still, answered, kept-down}
-use Rattle.protocol.proofs.RuleLaws.{byCases, Bounded, later, not-sink-by-leader}
+use Rattle.protocol.proofs.RuleLaws.{byCases, not-sink-by-leader}
+use Rattle.protocol.proofs.Timed.{Timed, left-timed, heard-timed}
 
 -- ---- the events
 
-module _ (n : ℕ) (p : Network) (inv : Inv n p) (u v : ℕ) (other : u ≡ v → ⊥) where
+module _ (n : ℕ) (p : Network) (inv : Inv n p) (timed : Timed p) (u v : ℕ) (other : u ≡ v → ⊥) where
   back : v ≡ u → ⊥
   back q = other (sym q)
 
@@ -37,22 +38,20 @@ module _ (n : ℕ) (p : Network) (inv : Inv n p) (u v : ℕ) (other : u ≡ v �
 
   up-keeps : upTo p u v ≡ false → Inv n (step n p (up u v))
   unfolding step localUp carried news drained raised post
-  up-keeps free = carried-keeps (up u v) n p inv other (p .neighbors u) (update (p .forming u) v true) (p .height u) c changed ChannelUp kept at-v
+  up-keeps free = carried-keeps (up u v) n p inv other (p .neighbors u) (update (p .forming u) v true) (p .height u) changed (suc c) ChannelUp kept at-v
     where
       c : ℕ
       c = p .clock u
 
-      changed : Changed (up u v) n p inv other (p .neighbors u) (update (p .forming u) v true) (p .height u) c
+      changed : Changed (up u v) n p inv other (p .neighbors u) (update (p .forming u) v true) (p .height u)
       changed = record {
-        moved = omega arith;
         same = same-forming p u v;
-        timely = inv .nodes u .times v;
         sender = inv .nodes u .seen v;
       }
 
       kept : Kept n (p .neighbors u) (p .height u) u v (suc c) ChannelUp (p .height u u)
       kept =
-          kept-still n (p .neighbors u) (p .height u) u v c ChannelUp (inv .nodes u .times u) (inv .nodes u .mine) (inv .nodes u .awake)
+          kept-still n (p .neighbors u) (p .height u) u v c ChannelUp (timed .heights u u) (inv .nodes u .mine) (inv .nodes u .awake)
           (toOne refl (λ w b. refl))
 
       m : Message
@@ -65,7 +64,7 @@ module _ (n : ℕ) (p : Network) (inv : Inv n p) (u v : ℕ) (other : u ≡ v �
 
   down-keeps : Inv n (step n p (down u v))
   unfolding step localDown carried news drained dropped post
-  down-keeps = carried-keeps e n p inv other N F row c changed r kept at-v
+  down-keeps = carried-keeps e n p inv other N F row changed (suc c) r kept at-v
     where
       e : Event
       e = down u v
@@ -88,18 +87,17 @@ module _ (n : ℕ) (p : Network) (inv : Inv n p) (u v : ℕ) (other : u ≡ v �
       h : Height
       h = heightAfter n N row u v (suc c) r
 
-      changed : Changed e n p inv other N F row c
+      changed : Changed e n p inv other N F row
       changed = record {
-        moved = omega arith;
         same = same-updated p u v false zeroHeight;
-        timely = rw (update-at (p .height u) v zeroHeight) (unstarted c zeroHeight refl refl);
         sender = λ i. clash i (update-at (p .neighbors u) v false);
       }
 
       kept : Kept n N row u v (suc c) r h
       kept =
-          kept-down n N row u v c (selfN e n p inv other N F row c changed) (times e n p inv other N F row c changed)
-          (mine e n p inv other N F row c changed)
+          kept-down n N row u v c (selfN e n p inv other N F row changed)
+          (left-timed p timed u v)
+          (mine e n p inv other N F row changed)
 
       at-v : LinkAfter p u (localDown n p u v) (cleared p e) v
       at-v =
@@ -125,22 +123,20 @@ module _ (n : ℕ) (p : Network) (inv : Inv n p) (u v : ℕ) (other : u ≡ v �
 
     ignored-keeps : upTo p u v ≡ false → Inv n (commit p u (localIgnored n p u v (m .timestamp)) (cleared p (receive v u)))
     unfolding localIgnored carried news drained post
-    ignored-keeps free = carried-keeps (receive v u) n p inv other (p .neighbors u) (p .forming u) (p .height u) c changed Ignored kept at-v
+    ignored-keeps free = carried-keeps (receive v u) n p inv other (p .neighbors u) (p .forming u) (p .height u) changed (suc c) Ignored kept at-v
       where
         c : ℕ
         c = p .clock u
 
-        changed : Changed (receive v u) n p inv other (p .neighbors u) (p .forming u) (p .height u) c
+        changed : Changed (receive v u) n p inv other (p .neighbors u) (p .forming u) (p .height u)
         changed = record {
-          moved = omega arith;
           same = same-all p u v;
-          timely = inv .nodes u .times v;
           sender = inv .nodes u .seen v;
         }
 
         kept : Kept n (p .neighbors u) (p .height u) u v (suc c) Ignored (p .height u u)
         kept =
-            kept-still n (p .neighbors u) (p .height u) u v c Ignored (inv .nodes u .times u) (inv .nodes u .mine) (inv .nodes u .awake)
+            kept-still n (p .neighbors u) (p .height u) u v c Ignored (timed .heights u u) (inv .nodes u .mine) (inv .nodes u .awake)
             (toNone refl (λ w b. refl))
 
         at-v : LinkAfter p u (localIgnored n p u v (m .timestamp)) (cleared p (receive v u)) v
@@ -148,7 +144,7 @@ module _ (n : ℕ) (p : Network) (inv : Inv n p) (u v : ℕ) (other : u ≡ v �
 
     taken-keeps : 1 ≤ v → v ≤ n → upTo p u v ≡ true → Inv n (commit p u (localTaken n p u v m) (cleared p (receive v u)))
     unfolding localTaken carried news drained heard
-    taken-keeps low high isup = carried-keeps e n p inv other N F row c changed r (reply .kept) at-v
+    taken-keeps low high isup = carried-keeps e n p inv other N F row changed (suc c) r (reply .kept) at-v
       where
         e : Event
         e = receive v u
@@ -171,8 +167,8 @@ module _ (n : ℕ) (p : Network) (inv : Inv n p) (u v : ℕ) (other : u ≡ v �
         h : Height
         h = heightAfter n N row u v (suc c) r
 
-        first : PostedBy (p .clock v) v m
-        first = all-head (PostedBy (p .clock v) v) m ms (rw queue at (inv .posted v u))
+        first : PostedBy v m
+        first = all-head (PostedBy v) m ms (rw queue at (inv .posted v u))
 
         row-v : row v ≡ m .height
         row-v = update-at (p .height u) v (m .height)
@@ -180,18 +176,17 @@ module _ (n : ℕ) (p : Network) (inv : Inv n p) (u v : ℕ) (other : u ≡ v �
         row-u : row u ≡ p .height u u
         row-u = update-off (p .height u) v (m .height) u other
 
-        changed : Changed e n p inv other N F row c
+        changed : Changed e n p inv other N F row
         changed = record {
-          moved = omega arith;
           same = same-updated p u v true (m .height);
-          timely = rw row-v (later (m .timestamp) c (m .height) (omega arith) (first .bounded));
           sender = λ i. rw row-v (first .sender);
         }
 
         reply : Answered n N row u v (suc c) r h
         reply =
-            answered n N row u v c (selfN e n p inv other N F row c changed) (times e n p inv other N F row c changed)
-            (mine e n p inv other N F row c changed) low high (update-at (p .neighbors u) v true) r (verdict n N row u v)
+            answered n N row u v c (selfN e n p inv other N F row changed)
+            (heard-timed p timed u v m ms queue)
+            (mine e n p inv other N F row changed) low high (update-at (p .neighbors u) v true) r (verdict n N row u v)
 
         at-v : LinkAfter p u (localTaken n p u v m) (cleared p e) v
         at-v =
@@ -223,15 +218,14 @@ module _ (n : ℕ) (p : Network) (inv : Inv n p) (u v : ℕ) (other : u ≡ v �
 
 -- ---- every event, and the fresh network
 
-pub step-keeps : (n : ℕ) (p : Network) (e : Event) → Inv n p → Accepted n p e → Inv n (step n p e)
-step-keeps n p (up u v) inv ok = up-keeps n p inv u v (ok .differ) (ok .fits)
-step-keeps n p (down u v) inv ok = down-keeps n p inv u v (ok .differ)
-step-keeps n p (receive v u) inv ok = receipt-keeps n p inv u v (ok .differ) (ok .lowV) (ok .highV) (ok .fits)
+pub step-keeps : (n : ℕ) (p : Network) (e : Event) → Inv n p → Timed p → Accepted n p e → Inv n (step n p e)
+step-keeps n p (up u v) inv timed ok = up-keeps n p inv timed u v (ok .differ) (ok .fits)
+step-keeps n p (down u v) inv timed ok = down-keeps n p inv timed u v (ok .differ)
+step-keeps n p (receive v u) inv timed ok = receipt-keeps n p inv timed u v (ok .differ) (ok .lowV) (ok .highV) (ok .fits)
 
 pub fresh-inv : (n : ℕ) → Inv n fresh
 fresh-inv n = record {
   nodes = λ u. record {
-    times = λ v. byCases (Bounded 0) (eqb u v) _ zeroHeight (λ e. unstarted 0 _ refl refl) (λ e. unstarted 0 _ refl refl);
     awake = not-sink-by-leader n (fresh .neighbors u) (fresh .height u) u (rw (eq-eqb u u refl));
     mine = rw (eq-eqb u u refl);
     seen = λ v i. clash i refl;

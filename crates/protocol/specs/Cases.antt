@@ -1,10 +1,11 @@
 -- The plots worked by hand: document 01's marked cases a to i as one table, with exactly its numbers.
--- Each row: n, the start network, the events, and what must come of them. At the end `readings`: more rows, for other wrong readings.
+-- Each row: n, the start network, the events, and what must come of them. Then `readings`: more rows, for other wrong readings; and `limits`: times at
+-- their limits.
 use Prim.Native.Nat.{ℕ}
-use mathlib.Core.Bool.{Bool, true, false, _||_}
+use mathlib.Core.Bool.{Bool, true, false, cond, _||_}
 use mathlib.Core.List.{List, [], _∷_, _++_, map}
 use lib.Dec.{eqb}
-use lib.IntN.{ℤ, pos, negsuc}
+use lib.IntN.{ℤ, pos, negsuc, negℤ}
 use Rattle.basics.specs.Functions.{update, afterAll, sayAll}
 use Rattle.height.specs.Height.{zeroHeight}
 use Rattle.height.specs.declared.Height.{Height}
@@ -235,6 +236,44 @@ readings =
       events = up 1 3 ∷ up 1 2 ∷ receive 1 2 ∷ [];
       expected = expect (85 ∷ 85 ∷ 73 ∷ []) (4 ∷ 2 ∷ 0 ∷ []) (held 1 2 (h 0 0 0 (pos 0) (pos 0) 1 1) ∷ held 2 1 (h 0 0 0 (pos 0) (pos 0) 2 2) ∷ []) false;
     }
+    ∷ []
+
+-- ---- times at their limits, and one beyond them (document 02, [3])
+
+-- nodes 1 and 2 linked, with the clocks 5 and 9: node 1's own height and view, the stamp of its message, and node 2's message, stamped 7
+abbrev pub linkedTwo : Height → Height → ℕ → Height → Network
+linkedTwo own view stamp message =
+    withNode 1 5 (2 ∷ []) [] (own ∷ view ∷ [])
+    (withNode 2 9 (1 ∷ []) [] (h 0 0 0 (pos 0) (pos 0) 1 1 ∷ h 0 0 0 (pos 0) (pos 0) 2 2 ∷ [])
+    (withMessage 1 2 (h 0 0 0 (pos 0) (pos 0) 1 1) stamp (withMessage 2 1 message 7 fresh)))
+
+-- a height of node k with this search time and this election time
+abbrev pub timed : ℕ → ℕ → ℕ → Height
+timed tau election k = h tau (cond (eqb tau 0) 0 1) 0 (pos 0) (negℤ (pos election)) k k
+
+pub record Limit : Type 0 where
+  pub network : Network
+  pub inTime : Bool
+
+abbrev pub limit : Network → Bool → Limit
+limit p t = record { network = p; inTime = t }
+
+-- own search time, own election time, those of a view, a stamp, and both times of a message that is stamped before its sender's clock
+abbrev pub limits : List Limit
+limits =
+    limit (linkedTwo (timed 5 0 1) (timed 0 0 2) 5 (timed 0 0 2)) true
+    ∷ limit (linkedTwo (timed 6 0 1) (timed 0 0 2) 5 (timed 0 0 2)) false
+    ∷ limit (linkedTwo (timed 0 5 1) (timed 0 0 2) 5 (timed 0 0 2)) true
+    ∷ limit (linkedTwo (timed 0 6 1) (timed 0 0 2) 5 (timed 0 0 2)) false
+    ∷ limit (linkedTwo (timed 0 0 1) (timed 5 0 2) 5 (timed 0 0 2)) true
+    ∷ limit (linkedTwo (timed 0 0 1) (timed 6 0 2) 5 (timed 0 0 2)) false
+    ∷ limit (linkedTwo (timed 0 0 1) (timed 0 5 2) 5 (timed 0 0 2)) true
+    ∷ limit (linkedTwo (timed 0 0 1) (timed 0 6 2) 5 (timed 0 0 2)) false
+    ∷ limit (linkedTwo (timed 0 0 1) (timed 0 0 2) 5 (timed 7 0 2)) true
+    ∷ limit (linkedTwo (timed 0 0 1) (timed 0 0 2) 6 (timed 0 0 2)) false
+    ∷ limit (linkedTwo (timed 0 0 1) (timed 0 0 2) 5 (timed 8 0 2)) false
+    ∷ limit (linkedTwo (timed 0 0 1) (timed 0 0 2) 5 (timed 0 7 2)) true
+    ∷ limit (linkedTwo (timed 0 0 1) (timed 0 0 2) 5 (timed 0 8 2)) false
     ∷ []
 
 -- ---- what comes of a case

@@ -1,5 +1,5 @@
 -- The refusals of an event and their order: document 01, "Returned numbers": 3, its own of 4 to 6, then 7 to 9.
--- (1 and 2 are about the lent tables.) A refused event changes nothing.
+-- (1, 2 and 18 are about the lent tables.) A refused event changes nothing.
 use Prim.Native.Nat.{ℕ}
 use mathlib.Core.Bool.{Bool, false, not, cond, _&&_, _||_}
 use mathlib.Core.List.{List}

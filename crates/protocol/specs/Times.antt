@@ -1,5 +1,5 @@
--- Times that make sense: none in a node's heights above its clock, no stamp above the sender's clock, no message time above its stamp.
--- Document 01 asks for none of this; the theorems show it of every grown network, and the start networks of the worked cases have it.
+-- Times that make sense (document 02, [3]): none in a node's heights above its clock, no stamp above the sender's clock, no message time above
+-- its stamp. Refusal 18 names the first pair at which one fails, where no pair breaks a rule. Election times are taken without their sign.
 use Prim.Native.Nat.{ℕ}
 use mathlib.Core.Bool.{Bool, _&&_}
 use lib.Dec.{leb}
@@ -17,6 +17,7 @@ timesWithin c h = leb (h .level .tau .0) c && leZ (negℤ (pos c)) (h .pair .nlt
 unfoldable pub messageTimely : ℕ → Message → Bool
 messageTimely c m = leb (m .timestamp) c && timesWithin (m .timestamp) (m .height)
 
+-- at the pair u, u the own height, at u, v the view of v and the channel u to v
 unfoldable pub pairTimely : Network → ℕ → ℕ → Bool
 pairTimely p u v = timesWithin (p .clock u) (p .height u v) && all (messageTimely (p .clock u)) (p .channel u v)
 

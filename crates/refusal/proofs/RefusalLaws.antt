@@ -8,7 +8,7 @@ use lib.Dec.{eqb}
 use denote.Enum.Declared.{tagOf}
 use types.Run.{OneOf, miss}
 use Rattle.refusal.specs.Refusal.{why, whyOf}
-use Rattle.refusal.specs.declared.Refusal.the-variants.{ChannelFull, TooShort, BadHeader, BadEnd, NotPlace, NoRoom, Malformed, NotSketch, BadLink}
+use Rattle.refusal.specs.declared.Refusal.the-variants.{ChannelFull, TooShort, BadHeader, BadEnd, NotPlace, NoRoom, Malformed, NotSketch, BadLink, Untimely}
 use Rattle.refusal.specs.declared.Refusal.the-variants.{Sizes, Fault, NodeNumber, AlreadyUp, AlreadyDown, NoMessage, ClockEnd, DeltaEnd}
 use Rattle.refusal.specs.declared.Refusal.{Refusal}
 use Rattle.refusal.specs.declared.Why.{Why}
@@ -21,7 +21,7 @@ reasonFrom w =
     (cond (eqb (w .number) 7) ClockEnd (cond (eqb (w .number) 8) DeltaEnd (cond (eqb (w .number) 9) ChannelFull
     (cond (eqb (w .number) 10) TooShort (cond (eqb (w .number) 11) BadHeader (cond (eqb (w .number) 12) BadEnd
     (cond (eqb (w .number) 13) NotPlace (cond (eqb (w .number) 14) NoRoom (cond (eqb (w .number) 15) Malformed
-    (cond (eqb (w .number) 16) NotSketch BadLink)))))))))))))))
+    (cond (eqb (w .number) 16) NotSketch (cond (eqb (w .number) 17) BadLink (Untimely (w .u) (w .v))))))))))))))))))
 
 pub reason-back : (r : Refusal) → reasonFrom (whyOf r) ≡ r
 unfolding reasonFrom
@@ -42,6 +42,7 @@ reason-back NoRoom = refl
 reason-back Malformed = refl
 reason-back NotSketch = refl
 reason-back BadLink = refl
+reason-back (Untimely u v) = refl
 
 pub why-injective : (r s : Refusal) → whyOf r ≡ whyOf s → r ≡ s
 why-injective r s e = sym (reason-back r) ∙ (ap reasonFrom e ∙ reason-back s)
@@ -65,8 +66,9 @@ never-0 NoRoom = refl
 never-0 Malformed = refl
 never-0 NotSketch = refl
 never-0 BadLink = refl
+never-0 (Untimely u v) = refl
 
--- ---- reasons without a pair: all but 2
+-- ---- reasons without a pair: all but 2 and 18
 
 abbrev pub Pairless : Refusal → Type 0
 Pairless r = OneOf (0 ∷ 2 ∷ 3 ∷ 4 ∷ 5 ∷ 6 ∷ 7 ∷ 8 ∷ 9 ∷ 10 ∷ 11 ∷ 12 ∷ 13 ∷ 14 ∷ 15 ∷ 16 ∷ []) (tagOf reasons.the-type r)
@@ -89,10 +91,11 @@ pairless-said NoRoom k = refl
 pairless-said Malformed k = refl
 pairless-said NotSketch k = refl
 pairless-said BadLink k = refl
+pairless-said (Untimely u v) k = absurd (miss (0 ∷ 2 ∷ 3 ∷ 4 ∷ 5 ∷ 6 ∷ 7 ∷ 8 ∷ 9 ∷ 10 ∷ 11 ∷ 12 ∷ 13 ∷ 14 ∷ 15 ∷ 16 ∷ []) 17 tt k)
 
 module _ (r : Refusal) (number : ℕ) (e : number ≡ whyOf r .number) where
-  pub with-pair : {u v : ℕ} → r ≡ Fault u v → why number u v ≡ whyOf r
-  with-pair q = rw (e, q) refl
+  pub with-pair : (s : Refusal) → r ≡ s → why number (whyOf s .u) (whyOf s .v) ≡ whyOf r
+  with-pair s q = rw (e, q)
 
   pub pairless : Pairless r → why number 0 0 ≡ whyOf r
   pairless k = rw e (pairless-said r k)

@@ -21,9 +21,10 @@ pub enum Refusal {
     Malformed, // 15
     NotSketch, // 16
     BadLink, // 17
+    Untimely(u32, u32), // 18, with the first pair whose times make no sense
 }
 
-// The returned number; for 2 the pair at fault, else 0 and 0.
+// The returned number; for 2 and 18 the pair at fault, else 0 and 0.
 pub struct Why {
     pub number: u32,
     pub u: u32,
@@ -52,6 +53,7 @@ pub fn number(reason: Refusal) -> u32
         Refusal::Malformed => 15,
         Refusal::NotSketch => 16,
         Refusal::BadLink => 17,
+        Refusal::Untimely(_, _) => 18,
     }
 }
 
@@ -62,6 +64,7 @@ pub fn said(reason: Refusal) -> Why
     let number = number(reason);
     match reason {
         Refusal::Fault(u, v) => Why { number, u, v },
+        Refusal::Untimely(u, v) => Why { number, u, v },
         _ => Why { number, u: 0, v: 0 },
     }
 }

@@ -18,22 +18,19 @@ use Rattle.groups.specs.Quiet.{quietOn}
 use Rattle.groups.proofs.Collectors.{OneCollector, collector-named}
 use Rattle.groups.proofs.Partition.{parted}
 use Rattle.lent.specs.Check.{checkOn}
-use Rattle.lent.proofs.SoundNetworks.{sound-check}
 use Rattle.nodeset.specs.NodeSet.{member, digit}
 use Rattle.protocol.specs.Network.{Node, Network, upTo, own}
 use Rattle.protocol.specs.Quiet.{quiet}
-use Rattle.protocol.proofs.Holding.{sound-holds}
 use Rattle.protocol.proofs.NodeLaws.{node-passes}
 use Rattle.refusal.specs.Outcome.{Answered, accepted, afterCheck}
 use Rattle.refusal.specs.Refusal.{why}
 use Rattle.refusal.specs.declared.Why.{Why}
 use Rattle.tables.specs.Tables.{Tables}
-use Rattle.tables.proofs.Back.{storable}
 use Rattle.runs.specs.OnTables.{Allowed}
 use Rattle.runs.proofs.Demand3.{tablesAt, networkAt, historyAfter, Demand3, demand-3}
 use Rattle.runs.proofs.ReadOff.{quiet-by-history}
 use Rattle.runs.proofs.Simulation.{from-fresh}
-use Rattle.runs.proofs.TablesRun.{meantAfter, on-tables}
+use Rattle.runs.proofs.TablesRun.{meantAfter, on-tables, tables-pass}
 
 -- ---- the statement
 
@@ -88,10 +85,7 @@ module _ (n : ℕ) (low : 1 ≤ n) (few : n ≤ 16) (cs : List Call) (allowed : 
   d = demand-3 n low few cs allowed
 
   passes : checkOn n t ≡ why 0 0 0
-  passes =
-      let q = meantAfter n cs .now in
-      let fits = from-fresh n low few cs allowed .sane .good .fits in
-      ap (checkOn n) (on-tables n low few cs allowed .tables-are) ∙ sound-check n q (storable n q fits) (sound-holds n q fits) low few
+  passes = tables-pass n low few cs allowed
 
   ups : upTo p ≡ upIn (historyAfter n cs)
   ups = fun-ext (λ a. fun-ext (λ b. d .up-is a b))

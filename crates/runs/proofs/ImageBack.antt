@@ -1,4 +1,4 @@
--- What lists of calls ask of images: an accepted save puts one out, one of a sound network is read as it, and a refused restore changes nothing.
+-- What lists of calls ask of images: an accepted save puts one out, one of a sound network whose times make sense is read as it, and a refused restore changes nothing.
 -- Assumes 1 to 16 nodes.
 use Prim.Native.Nat.{ℕ, _≤_}
 use native.Mathlib.Omega.{arith}
@@ -18,6 +18,7 @@ use Rattle.image_snapshot.proofs.RestoreSaved.{restore-image}
 use Rattle.lent.proofs.CheckLaws.{is-sized}
 use Rattle.protocol.specs.Holds.{sound}
 use Rattle.protocol.specs.Network.{Network, restrict}
+use Rattle.protocol.specs.Times.{timely}
 use Rattle.protocol.proofs.SoundStep.{sound-fits}
 use Rattle.refusal.specs.Outcome.{outcome, putFront}
 use Rattle.refusal.specs.Refusal.{why}
@@ -63,19 +64,19 @@ save-good n m out p zero! = go (choice (eqb m n)) zero!
 
 module _ (n : ℕ) (low : 1 ≤ n) (few : n ≤ 16) where
   -- what a restore of a network's image does to tables of n nodes
-  pub restore-of : (p : Network) (b : List ℕ) → sound n p ≡ true → restrict n p ≡ p → ImageOf n p b → (q : Network)
+  pub restore-of : (p : Network) (b : List ℕ) → sound n p ≡ true → restrict n p ≡ p → timely n p ≡ true → ImageOf n p b → (q : Network)
       → restoreOn b (tablesOf n q) ≡ outcome (why 0 0 0) (tablesOf n p)
-  restore-of p b holds inside is q =
+  restore-of p b holds inside times is q =
       ap (λ (x : List ℕ). restoreOn x (tablesOf n q)) is
-      ∙ restore-image n low few p holds inside (tablesOf n q) (is-sized n (tablesOf n q) (tables-sized n q low few))
+      ∙ restore-image n low few p holds inside times (tablesOf n q) (is-sized n (tablesOf n q) (tables-sized n q low few))
 
   pub writes : (m : ℕ) (out : List ℕ) (p : Network) → writing (saveMeant n m out p) .said ≡ 0 → ImageOf n p (writing (saveMeant n m out p) .after)
   writes m out p zero! = save-good n m out p zero! .bytes
 
-  pub reads : (p : Network) (b : List ℕ) → sound n p ≡ true → restrict n p ≡ p → ImageOf n p b → (q : Network)
+  pub reads : (p : Network) (b : List ℕ) → sound n p ≡ true → restrict n p ≡ p → timely n p ≡ true → ImageOf n p b → (q : Network)
       → restoreMeant n b q ≡ record { said = 0; after = p }
   unfolding restoreMeant
-  reads p b holds inside is q = rw (restore-of p b holds inside is q, load-back n p (storable n p (sound-fits n p inside holds)))
+  reads p b holds inside times is q = rw (restore-of p b holds inside times is q, load-back n p (storable n p (sound-fits n p inside holds)))
 
   pub kept : (b : List ℕ) (q : Network) → sound n q ≡ true → restrict n q ≡ q → (restoreMeant n b q .said ≡ 0 → ⊥) → restoreMeant n b q .after ≡ q
   unfolding restoreMeant

@@ -6,6 +6,7 @@ pub mod TablesRun
 pub mod AllowedLists
 pub mod Demand3
 pub mod SavedComesBack
+pub mod NeverUntimely
 pub mod ReadOff
 pub mod Desk
 pub mod OlderSave

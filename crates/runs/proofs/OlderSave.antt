@@ -29,9 +29,9 @@ use Rattle.image_reading.specs.Header.{headerHolds, headerOf}
 use Rattle.image_reading.specs.Walk.{channelStep, onward, steps, channelsFromWalk, channelsWalk, walk, endsAt}
 use Rattle.image_snapshot.specs.Restore.{restoreExamined, restoreOf, restoreHeaded, restoreOn}
 use Rattle.image_snapshot.specs.Save.{saveOn}
-use Rattle.lent.specs.Check.{pairAt, faultInRow, faultFrom, firstFault, checkOn}
+use Rattle.lent.specs.Check.{pairAt, faultInRow, faultFrom, firstFault, checkOn, firstUntimely, contentsOn, timelyAt}
 use Rattle.nodeset.specs.NodeSet.{member, setOf, within, sameNode, apart, leastFrom, lowest}
-use Rattle.pairs.specs.Pair.{ownSound, viewSound, channelSound, pairSound}
+use Rattle.pairs.specs.Pair.{ownSound, viewSound, channelSound, pairSound, timelyIn}
 use Rattle.protocol.specs.Answer.{carriedOut, saidRefused}
 use Rattle.protocol.specs.Holds.{levelHolds, deltaHolds, leaderPairHolds, heightHolds, messageHolds, notInBoth, setsHold}
 use Rattle.protocol.specs.Network.{Node, own}
@@ -40,6 +40,7 @@ use Rattle.protocol.specs.Refusal.{misnamed, late, hasRoom, crowded, returned, 
 use Rattle.protocol.specs.Rules.{absent, downRule, larger, largest, deltas, ofLevel, oneLevelRule, equalPairsRule, receiptRule}
 use Rattle.protocol.specs.Sink.{above, sink}
 use Rattle.protocol.specs.Step.{up, down, receive, carried, localUp, localDown, localIgnored, localTaken, post, commit, step}
+use Rattle.protocol.specs.Times.{timesWithin, messageTimely}
 use Rattle.refusal.specs.Outcome.{accepted, outcome, putFront, refusedWith, putChecked}
 use Rattle.refusal.specs.Refusal.{why}
 use Rattle.tables.specs.Cell.{messageAt, messagesAt, queue, allZero, messageWords}
@@ -180,7 +181,7 @@ unfolding bits number unpacked packed field spread gathered stepAt stepChecked s
     deltaWord heightWords heightAt headerBits nodeBits messageBits channelBits channelsBits networkBits padded bytesOf imageOf image fieldIn
     heightFrom messagesOf channelFrom walked channelNext channelsNext channelsPlace channelsFromPlace channelPlace imageEnd recordsIn
     tablesIn recordsOf rowWords slotWords cellWords tablesFrom recordBits extendedOf recordOf heightWidth messageWidth nodeWidth pairAt
-    faultInRow faultFrom firstFault checkOn member setOf within ownSound viewSound channelSound pairSound every everyPair all update levelHolds
+    faultInRow faultFrom firstFault firstUntimely contentsOn checkOn timelyAt timelyIn timesWithin messageTimely member setOf within ownSound viewSound channelSound pairSound every everyPair all update levelHolds
     deltaHolds leaderPairHolds heightHolds messageHolds notInBoth setsHold misnamed late hasRoom crowded returned accepts answer next absent
     downRule larger largest deltas ofLevel oneLevelRule equalPairsRule receiptRule above sink carried localUp localDown localIgnored
     localTaken post commit step afterWalk examined headerHolds headerOf channelStep onward steps channelsFromWalk channelsWalk walk endsAt

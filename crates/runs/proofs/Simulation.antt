@@ -26,7 +26,7 @@ use Rattle.lent.proofs.SoundNetworks.{sound-check}
 use Rattle.protocol.specs.Answer.{Said}
 use Rattle.protocol.specs.Network.{Network, fresh}
 use Rattle.protocol.specs.Step.{Event}
-use Rattle.protocol.proofs.Holding.{sound-holds}
+use Rattle.protocol.proofs.Holding.{sound-holds, timely-holds}
 use Rattle.protocol.proofs.Restrict.{restrict-is}
 use Rattle.refusal.specs.Outcome.{outcome, Outcome, Answered, putChecked}
 use Rattle.refusal.specs.Refusal.{why}
@@ -100,15 +100,18 @@ module _ (n : ℕ) (low : 1 ≤ n) (few : n ≤ 16) (w : RunState Network) (sane
   onto-event : (m : ℕ) (e : Event) → Onto (event m e)
   onto-event m e = ap (λ (o : Outcome Said Tables). steppedTo (onto n w) e o) (event-is m e)
 
+  -- the tables pass the check
+  pub passing : checkOn n (tablesOf n (w .now)) ≡ why 0 0 0
+  passing =
+      let g = sane .good in
+      sound-check n p (storable n p (g .fits)) (sound-holds n p (g .fits)) (timely-holds n p (g .timed)) low few
+
   pub save-is : (m : ℕ) (out : List ℕ) → saveOn m (tablesOf n (w .now)) out ≡ saveMeant n m out (w .now)
   unfolding saveOn putChecked saveMeant
   save-is m out = go (equal? m n)
     where
-      passes : checkOn n t ≡ why 0 0 0
-      passes = sound-check n p (storable n p (sane .good .fits)) (sound-holds n p (sane .good .fits)) low few
-
       go : SameOrNot m n → saveOn m t out ≡ saveMeant n m out p
-      go (inl q) = rw (q, eq-eqb n n refl, passes, own-back)
+      go (inl q) = rw (q, eq-eqb n n refl, passing, own-back)
       go (inr d) = rw (ne-eqb m n d, ← check-sizes m t (not-sized n low few (stateOf w) (sane .good) m d))
 
   keep-onto : (o : Outcome ℕ (List ℕ)) → savedTo (onto n w) o ≡ onto n (savedTo w o)
@@ -126,8 +129,9 @@ module _ (n : ℕ) (low : 1 ≤ n) (few : n ≤ 16) (w : RunState Network) (sane
       → restoreOn b (tablesOf n (w .now)) ≡ record { said = why 0 0 0; after = tablesOf n (s .at) }
   restore-is b s e =
       let f = found (Imaged _ _ n (ImageOf n) (writes n low few) (reads n low few) (kept n low few)) b (w .saves) (sane .saves) s e in
-      let fits = f .1 .good .fits in
-      restore-of n low few (s .at) b (sound-holds n (s .at) fits) (restrict-is n (s .at) fits) (sym (f .0) ∙ f .1 .image) p
+      let g = f .1 .good in
+      restore-of n low few (s .at) b (sound-holds n (s .at) (g .fits)) (restrict-is n (s .at) (g .fits)) (timely-holds n (s .at) (g .timed))
+      (sym (f .0) ∙ f .1 .image) p
 
   onto-saved : (b : List ℕ) (s : Saved Network) → lastSave b (w .saves) ≡ savedAt s → Onto (restore b)
   unfolding restoreMeant

@@ -4,9 +4,11 @@ use Prim.Native.Nat.{ℕ, _≤_}
 use mathlib.Core.List.{List, [], _∷_, _++_}
 use mathlib.Core.Path.{_≡_, refl, sym, ap, ap₂, _∙_}
 use Rattle.calls.specs.Run.{Call, event, save, restore, RunState, startOfRun, act, perform, AllFair}
+use Rattle.lent.specs.Check.{checkOn}
 use Rattle.protocol.specs.Answer.{Said}
 use Rattle.protocol.specs.Network.{Network, fresh}
 use Rattle.refusal.specs.Outcome.{Outcome}
+use Rattle.refusal.specs.Refusal.{why}
 use Rattle.tables.specs.Load.{load, tablesOf}
 use Rattle.tables.specs.Tables.{Tables}
 use Rattle.runs.specs.OnTables.{tablesAfter, tablesAfterAll, onTables, freshTables, then, after, Allowed}
@@ -14,7 +16,7 @@ use Rattle.runs.specs.inner.Replies.{Reply, toEvent, toSave, reply, repl
 use Rattle.runs.specs.inner.ByMeaning.{byMeaning, replyTo, repliesTo}
 use Rattle.runs.proofs.ImageBack.{SaneRun}
 use Rattle.runs.proofs.Lists.{perform-append, fair-head}
-use Rattle.runs.proofs.Simulation.{onto, own-back, event-is, save-is, onto-call, fair-from, call-sane, onward, fresh-sane, from-fresh}
+use Rattle.runs.proofs.Simulation.{passing, onto, own-back, event-is, save-is, onto-call, fair-from, call-sane, onward, fresh-sane, from-fresh}
 
 -- ---- the statement
 
@@ -80,3 +82,8 @@ on-tables n low few cs allowed =
       network-is = ap (load n) tables-are ∙ own-back n low few (meantAfter n cs) (s .sane);
       history-is = ap (λ (v : RunState Tables). v .history) (s .run-is);
     }
+
+-- the tables pass the check: neither 2 nor 18
+pub tables-pass : (n : ℕ) → 1 ≤ n → n ≤ 16 → (cs : List Call) → Allowed n cs → checkOn n (tablesAfterAll (freshTables n) cs) ≡ why 0 0 0
+tables-pass n low few cs allowed =
+    ap (checkOn n) (on-tables n low few cs allowed .tables-are) ∙ passing n low few (meantAfter n cs) (from-fresh n low few cs allowed .sane)

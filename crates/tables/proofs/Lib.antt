@@ -3,6 +3,7 @@ pub mod Sizes
 pub mod RowsLaws
 pub mod RowsMore
 pub mod WordRuns
+pub mod Zeros
 pub mod RecordsLaws
 pub mod Wordy
 pub mod RowLaws

@@ -3,18 +3,20 @@
 use Prim.Native.Nat.{ℕ, zero, suc, _+_, _-_, _*_, _≤_, _<_}
 use native.Mathlib.Nat.{mul-assoc}
 use native.Mathlib.Omega.{arith}
-use mathlib.Core.List.{List, [], _∷_, map}
+use mathlib.Core.Bool.{true}
+use mathlib.Core.List.{List, [], _∷_, _++_, map}
 use mathlib.Core.Logic.{inl, inr}
 use mathlib.Core.Path.{_≡_, refl, sym, ap, ap₂, _∙_}
+use lib.Dec.{eqb}
 use lib.ListN.{length, take, drop, getD, replicate, length-append, length-replicate}
-use lib.Seq.{take-at, drop-at}
+use lib.Seq.{take-at, drop-at, drop-append-add}
 use Rattle.basics.proofs.AllOf.{AllOf, none, more}
-use Rattle.basics.proofs.Tests.{SameOrNot, equal?}
+use Rattle.basics.proofs.Tests.{SameOrNot, equal?, and-left, and-right, and-both}
 use Rattle.height.specs.Words.{heightWords}
 use Rattle.height.specs.declared.Height.{Height}
 use Rattle.nodeset.specs.NodeSet.{setOf}
 use Rattle.protocol.specs.Network.{Node, Message, Network}
-use Rattle.tables.specs.Cell.{messageWords}
+use Rattle.tables.specs.Cell.{count, messageWords, allZero}
 use Rattle.tables.specs.Records.{Records, recordsOf, rowWords, slotWords, cellWords, tablesFrom}
 use Rattle.tables.specs.Rows.{rows, rowAt}
 use Rattle.tables.specs.Tables.{Tables, tables, width, cellWidth, nodeOf, channelOf}
@@ -186,3 +188,34 @@ agree-tables n r s same own =
     channel : (i j : ℕ) → i < n → j < n → SameOrNot (suc i) (suc j) → r .channel (suc i) (suc j) ≡ s .channel (suc i) (suc j)
     channel i j l m (inl e) = rw (← e) (own i l)
     channel i j l m (inr d) = same .channels i j l m d
+
+-- ---- the zero words of a cell
+
+zeros : (k : ℕ) → allZero (replicate k 0) ≡ true
+unfolding allZero
+zeros zero = refl
+zeros (suc k) = zeros k
+
+zeros-append : (xs ys : List ℕ) → allZero xs ≡ true → allZero ys ≡ true → allZero (xs ++ ys) ≡ true
+unfolding allZero
+zeros-append [] ys h k = k
+zeros-append (x ∷ xs) ys h k = and-both (and-left (eqb x 0) (allZero xs) h) (zeros-append xs ys (and-right (eqb x 0) (allZero xs) h) k)
+
+slots-zero : (k : ℕ) → allZero (slotWords k []) ≡ true
+unfolding slotWords
+slots-zero zero = unfold allZero in refl
+slots-zero (suc k) = zeros-append (replicate 8 0) (slotWords k []) (zeros 8) (slots-zero k)
+
+-- the words after the messages
+rest-zero : (k : ℕ) (ms : List (List ℕ)) → Eights ms → length ms ≤ k → allZero (drop (length ms * 8) (slotWords k ms)) ≡ true
+unfolding slotWords
+rest-zero k [] em l = slots-zero k
+rest-zero zero (m ∷ ms) em l = absurd (omega arith)
+rest-zero (suc k) (m ∷ ms) (more a em) l =
+    let e : suc (length ms) * 8 ≡ length m + length ms * 8 = omega (arith, a) in
+    rw (e, drop-append-add m (slotWords k ms) (length ms * 8)) (rest-zero k ms em (omega arith))
+
+pub unused-zero : (ms : List (List ℕ)) → Eights ms → length ms ≤ 8 → allZero (drop (1 + count (cellWords ms) * 8) (cellWords ms)) ≡ true
+unfolding cellWords
+unused-zero ms em l =
+    ap allZero (drop-append-add (length ms ∷ []) (slotWords 8 ms) (length ms * 8)) ∙ rest-zero 8 ms em l

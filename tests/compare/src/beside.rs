@@ -14,6 +14,7 @@ use reference::quiet;
 use reference::refusal::Refusal;
 use reference::step::{self, Answer, Event};
 use reference::tables::{self, Tables};
+use reference::times::first_untimely;
 
 pub struct Beside {
     pub plot: Plot,
@@ -36,8 +37,9 @@ impl Beside {
         beside
     }
 
-    /// A given plot in both. Its history is unknown, so nothing is asked of it.
+    /// A given plot in both, with no time beyond its clock. Its history is unknown, so nothing is asked of it.
     pub fn planted(plot: Plot) -> Beside {
+        assert_eq!(first_untimely(&plot), None, "a plot to step");
         Beside {
             tables: tables::store(&plot),
             plot,
@@ -50,7 +52,7 @@ impl Beside {
         self.plot.n
     }
 
-    /// The same event in both: the same answer, and the same words in the tables.
+    /// The same event in both: the same answer, and the same words in the tables. No time is beyond its clock afterwards either.
     pub fn step(&mut self, event: Event, tally: &mut Tally) -> Answer {
         self.events += 1;
         let answer = step::step(&mut self.plot, event);
@@ -62,6 +64,7 @@ impl Beside {
             "event {count}: {event:?}"
         );
         self.assert_same_tables();
+        assert_eq!(first_untimely(&self.plot), None, "after event {count}");
         self.ask(tally);
         self.ask_heights(tally);
         self.ask_drawing(tally);

@@ -1,10 +1,12 @@
-//! Ways to damage tables and images: single words and bits, and small changes that look right.
+//! Ways to damage tables and images: single words and bits, small changes that look right, and times alone.
 
 mod images;
 mod tables;
+mod times;
 
 pub use images::{FIELDS, damage_image, join_halves, put_bits};
 pub use tables::damage_tables;
+pub use times::{damage_image_times, damage_times};
 
 use crate::random::Random;
 

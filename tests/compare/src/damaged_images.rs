@@ -1,6 +1,7 @@
 //! Damaged images in both: the same number with the same pair, and nothing lent changed.
 
-use crate::beside::{compare_look, compare_restore, junk_tables};
+use crate::beside::number_of;
+use crate::calls::read_both_ways;
 use crate::damage;
 use crate::planted;
 use crate::questions::compare_stations;
@@ -22,6 +23,15 @@ pub fn damaged_images(seed: u64, tally: &mut Tally) {
     };
     let other = any_plot(n_of_other, &mut random);
     let (one_image, other_image) = (image::write(&one), image::write(&other));
+    for _ in 0..5 {
+        let mut bytes = one_image.clone();
+        for _ in 0..random.pick(&[1, 1, 2]) {
+            damage::damage_image_times(&mut bytes, &one, &mut random);
+        }
+        let read = image::resume(&bytes, tables::nodes_len(n), tables::channels_len(n));
+        tally.note(format!("times alone: {}", number_of(&read)));
+        read_both_ways(&bytes, n, &mut random, tally);
+    }
     for _ in 0..15 {
         let mut bytes = if random.chance(20) {
             damage::join_halves(&one_image, &other_image, &mut random)
@@ -74,27 +84,4 @@ pub fn every_header(tally: &mut Tally) {
             compare_stations(&header[..len], tally);
         }
     }
-}
-
-/// Reads bytes as a whole image and as one station, mostly into tables and a row of the header's length.
-fn read_both_ways(bytes: &[u8], n: i64, random: &mut Random, tally: &mut Tally) {
-    let said = image::header(bytes).unwrap_or(n);
-    let lent_n = if random.chance(90) {
-        said
-    } else {
-        random.between(0, 16)
-    };
-    let mut lent = junk_tables(lent_n, random);
-    if random.chance(3) {
-        lent.nodes.push(7);
-    }
-    if random.chance(3) {
-        lent.channels.pop();
-    }
-    compare_restore(bytes, lent, tally);
-
-    let k = random.between(0, said + 1);
-    let place = image::place_of(said, k.max(1)) as u64 + random.pick(&[0, 0, 0, 1, 96]);
-    let row = random.words(tables::row_len(lent_n));
-    compare_look(bytes, k, place, row, tally);
 }

@@ -1,15 +1,13 @@
 //! Damaged tables in both: the same number with the same pair, and no lent word changed.
 
-use crate::beside::{Beside, compare_check, compare_save, compare_step};
+use crate::beside::{Beside, number_of};
+use crate::calls::compare_tables;
 use crate::damage;
-use crate::drawings::compare_draw;
 use crate::events::{any_event, planted_event};
 use crate::planted;
-use crate::questions::compare_questions;
 use crate::random::Random;
 use crate::tally::Tally;
-use reference::drawing;
-use reference::image;
+use reference::tables;
 
 /// Damages the tables of one plot in several ways, each from the sound ones.
 pub fn damaged_tables(seed: u64, tally: &mut Tally) {
@@ -20,24 +18,25 @@ pub fn damaged_tables(seed: u64, tally: &mut Tally) {
     } else {
         Beside::planted(planted::sound_plot(n, &mut random))
     };
-    for _ in 0..20 {
+    for turn in 0..25 {
         let mut lent = sound.tables.clone();
+        let times_alone = turn % 5 == 0;
         for _ in 0..random.between(1, 3) {
-            damage::damage_tables(n, &mut lent, &mut random);
+            if times_alone || random.chance(10) {
+                damage::damage_times(&sound.plot, &mut lent, &mut random);
+            } else {
+                damage::damage_tables(n, &mut lent, &mut random);
+            }
         }
-        compare_check(n, &lent, tally);
-        compare_questions(n, &lent, tally);
+        if times_alone {
+            let checked = tables::check(n, &lent.nodes, &lent.channels);
+            tally.note(format!("times alone: {}", number_of(&checked)));
+        }
         let event = if random.chance(50) {
             planted_event(&sound.plot, &mut random)
         } else {
             any_event(n, &mut random)
         };
-        compare_step(n, event, &lent, tally);
-        let longest = image::longest(n);
-        let room = random.pick(&[longest, longest, longest, 0, 24, longest / 2]);
-        compare_save(n, &lent, room, &mut random, tally);
-        let longest = drawing::longest(n as u32);
-        let room = random.pick(&[longest, longest, longest + 1, 0, 21, longest / 2]);
-        compare_draw(n, &lent, room, &mut random, tally);
+        compare_tables(n, event, &lent, &mut random, tally);
     }
 }

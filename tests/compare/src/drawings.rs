@@ -118,7 +118,7 @@ pub fn compare_links(n: i64, lent: &Tables, tally: &mut Tally) -> Vec<u8> {
     text
 }
 
-/// Rooms from none to more than the drawing.
+/// Rooms from none to more than the drawing; some of them for tables with a time beyond its clock too.
 pub fn drawn_rooms(seed: u64, tally: &mut Tally) {
     let mut random = Random::new(seed);
     let n = random.between(1, 16);
@@ -131,6 +131,10 @@ pub fn drawn_rooms(seed: u64, tally: &mut Tally) {
     }
     compare_draw(n, &beside.tables, text.len(), &mut random, tally);
     compare_links(n, &beside.tables, tally);
+    let untimely = tables::store(&planted::untimely_plot(n, &mut random));
+    for room in [0, 21, text.len(), drawing::longest(n as u32)] {
+        compare_draw(n, &untimely, room, &mut random, tally);
+    }
 }
 
 // ---- reading

@@ -2,13 +2,14 @@
 
 mod resumes;
 
-use crate::beside::Beside;
+use crate::beside::{Beside, compare_step};
 use crate::events::{any_event, likely_pairs, of_those, planted_event, receipt, waiting_pairs};
 use crate::planted;
 use crate::random::Random;
 use crate::tally::Tally;
 use reference::plot::ordered_pairs;
 use reference::step::Event;
+use reference::tables;
 use resumes::Kept;
 
 /// What a history does next.
@@ -82,10 +83,14 @@ pub fn fresh_history(seed: u64, tally: &mut Tally) {
     run.assert_history_agrees();
 }
 
-/// One short history from a planted plot: no demand 3, but the ends of clocks, depths and channels.
+/// One short history from a planted plot: no demand 3, but the ends of clocks, depths and channels. A few have a time beyond its clock.
 pub fn planted_history(seed: u64, tally: &mut Tally) {
     let mut random = Random::new(seed);
     let n = random.between(1, 16);
+    if random.chance(4) {
+        return untimely_events(n, &mut random, tally);
+    }
+    tally.note("planted: timely");
     let plot = planted::sound_plot(n, &mut random);
     let mut beside = Beside::planted(plot);
     beside.assert_same_tables();
@@ -95,6 +100,16 @@ pub fn planted_history(seed: u64, tally: &mut Tally) {
     }
     let image = beside.save(&mut random, tally);
     beside.resume(&image, tally);
+}
+
+/// Events on a plot with a time beyond its clock, each refused.
+fn untimely_events(n: i64, random: &mut Random, tally: &mut Tally) {
+    tally.note("planted: untimely");
+    let plot = planted::untimely_plot(n, random);
+    let lent = tables::store(&plot);
+    for _ in 0..30 {
+        compare_step(n, planted_event(&plot, random), &lent, tally);
+    }
 }
 
 impl Run {

@@ -4,6 +4,7 @@
 //! round, the binary `soak` runs them for a given time.
 
 pub mod beside;
+pub mod calls;
 pub mod damage;
 pub mod damaged_images;
 pub mod damaged_tables;
@@ -16,8 +17,10 @@ pub mod heights;
 pub mod histories;
 pub mod places;
 pub mod planted;
+pub mod planted_times;
 pub mod questions;
 pub mod random;
 pub mod rounds;
 pub mod sizes;
 pub mod tally;
+pub mod times;

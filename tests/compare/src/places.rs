@@ -62,6 +62,18 @@ pub fn some_places(seed: u64, tally: &mut Tally) {
     }
     let far = i64::from(u32::MAX);
     look(&bytes, far, 32, n, &mut random, tally);
+    some_untimely_places(n, &mut random, tally);
+}
+
+/// Right and wrong places of an image with a time beyond its clock, for stations that there are and others.
+fn some_untimely_places(n: i64, random: &mut Random, tally: &mut Tally) {
+    let bytes = image::write(&planted::untimely_plot(n, random));
+    for k in 0..=n + 1 {
+        let right = image::place_of(n, k.max(1)) as u64;
+        for place in [right, right + 1] {
+            look(&bytes, k, place, n, random, tally);
+        }
+    }
 }
 
 /// A place is saved, then the header changes: length, n and version, each alone and together; then it is read at that place.

@@ -6,13 +6,14 @@ use crate::ffi;
 use crate::planted;
 use crate::random::Random;
 use crate::tally::Tally;
+use crate::times;
 use reference::image;
 use reference::plot::{Plot, ordered_pairs};
 use reference::quiet::{self, Group};
 use reference::refusal::Refusal;
 use reference::tables::{self, Tables};
 
-/// Tables to ask, and what the reference finds in them: a plot, or refusal 1 or 2.
+/// Tables to ask, and what the reference finds in them: a plot, or refusal 1, 2 or 18.
 pub struct Asked<'a> {
     pub n: i64,
     pub lent: &'a Tables,
@@ -69,7 +70,7 @@ impl Asked<'_> {
         assert_eq!(answer, expected_group(&group), "group of {u}");
         let number = number_of(&group);
         tally.note(match group {
-            Err(_) if number < 3 && !(1..=self.n).contains(&u) => {
+            Err(_) if number != 3 && !(1..=self.n).contains(&u) => {
                 format!("group of {number} before 3")
             }
             Err(_) => format!("group of {number}"),
@@ -145,12 +146,15 @@ fn note_links(plot: &Plot, tally: &mut Tally) {
     }
 }
 
-/// A planted plot with groups of every size, asked everything.
+/// A planted plot with groups of every size, asked everything; rarely with a time beyond its clock.
 pub fn planted_groups(seed: u64, tally: &mut Tally) {
     let mut random = Random::new(seed);
     let n = random.between(1, 16);
     let pairs = likely_pairs(n, &mut random);
-    let plot = planted::grouped_plot(n, &pairs, &mut random);
+    let mut plot = planted::grouped_plot(n, &pairs, &mut random);
+    if random.chance(5) {
+        times::put_any_beyond(&mut plot, &mut random);
+    }
     compare_questions(n, &tables::store(&plot), tally);
 }
 

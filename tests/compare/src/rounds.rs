@@ -3,7 +3,8 @@
 use crate::random::Random;
 use crate::tally::Tally;
 use crate::{
-    damaged_images, damaged_tables, drawings, heights, histories, places, questions, sizes,
+    damaged_images, damaged_tables, drawings, heights, histories, places, planted_times, questions,
+    sizes,
 };
 
 /// A kind of round.
@@ -23,10 +24,12 @@ const fn kind(name: &'static str, round: fn(u64, &mut Tally), in_a_lap: usize) -
 }
 
 /// All kinds of rounds.
-pub const KINDS: [Kind; 15] = [
+pub const KINDS: [Kind; 17] = [
     kind("fresh history", histories::fresh_history, 20),
     kind("planted history", histories::planted_history, 40),
     kind("planted groups", questions::planted_groups, 40),
+    kind("planted times", planted_times::planted_times, 5),
+    kind("joined halves", planted_times::joined_halves, 10),
     kind("random heights", heights::random_heights, 1000),
     kind("drawn rooms", drawings::drawn_rooms, 20),
     kind("thrown sketches", drawings::thrown_sketches, 2),

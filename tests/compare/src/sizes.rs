@@ -1,8 +1,6 @@
 //! Refusal 1 and the lengths to lend, in both.
 
-use crate::beside::{
-    Beside, compare_check, compare_restore, compare_save, compare_step, expected_check,
-};
+use crate::beside::{compare_check, compare_restore, compare_save, compare_step, expected_check};
 use crate::drawings::{compare_draw, compare_read};
 use crate::ffi;
 use crate::planted;
@@ -11,6 +9,7 @@ use crate::random::Random;
 use crate::tally::Tally;
 use reference::drawing;
 use reference::image;
+use reference::plot::Plot;
 use reference::refusal::Refusal;
 use reference::sketches;
 use reference::step::Event;
@@ -40,17 +39,23 @@ pub fn compare_lengths(n: u32) {
     assert_eq!(said, expected, "lengths for {n}");
 }
 
-/// Tables of one n, sound or a word too long or too short, lent with a right or wrong n.
+/// Tables of one n, of the right lengths or a word too long or too short, lent with a right or wrong n; sound ones, and ones with a time
+/// beyond its clock.
 pub fn wrong_sizes(seed: u64, tally: &mut Tally) {
     let mut random = Random::new(seed);
     let n = random.between(1, 8);
-    let sound = Beside::planted(planted::sound_plot(n, &mut random)).tables;
+    wrong_sizes_of(&planted::sound_plot(n, &mut random), &mut random, tally);
+    wrong_sizes_of(&planted::untimely_plot(n, &mut random), &mut random, tally);
+}
+
+fn wrong_sizes_of(plot: &Plot, random: &mut Random, tally: &mut Tally) {
+    let n = plot.n;
     let far = i64::from(u32::MAX);
     let counts = [n, n, 0, n - 1, n + 1, 16, 17, 32, 256 + n, 65_536 + n, far];
     for said in counts {
-        let mut lent = sound.clone();
-        resize(&mut lent.nodes, &mut random);
-        resize(&mut lent.channels, &mut random);
+        let mut lent = tables::store(plot);
+        resize(&mut lent.nodes, random);
+        resize(&mut lent.channels, random);
         compare_check(said, &lent, tally);
         compare_questions(said, &lent, tally);
         compare_questions(said, &all_ones(&lent), tally);
@@ -59,11 +64,11 @@ pub fn wrong_sizes(seed: u64, tally: &mut Tally) {
             compare_step(said, Event::Down { u, v }, &lent, tally);
             compare_step(said, Event::Receipt { from: u, to: v }, &lent, tally);
         }
-        compare_save(said, &lent, image::longest(8), &mut random, tally);
-        compare_restore(&image_of(n, &sound), lent.clone(), tally);
+        compare_save(said, &lent, image::longest(8), random, tally);
+        compare_restore(&image::write(plot), lent.clone(), tally);
         for room in [0, drawing::longest(8)] {
-            compare_draw(said, &lent, room, &mut random, tally);
-            compare_draw(said, &all_ones(&lent), room, &mut random, tally);
+            compare_draw(said, &lent, room, random, tally);
+            compare_draw(said, &all_ones(&lent), room, random, tally);
         }
         for links in [&[(1, 1)][..], &[]] {
             compare_read(&sketches::written(n as u32, links), &lent, tally);
@@ -101,10 +106,6 @@ fn all_ones(lent: &Tables) -> Tables {
     }
 }
 
-fn image_of(n: i64, sound: &Tables) -> Vec<u8> {
-    image::save(n, &sound.nodes, &sound.channels, usize::MAX).expect("sound tables")
-}
-
 /// As it is, longer, shorter or empty.
 fn resize(words: &mut Vec<u32>, random: &mut Random) {
     match random.below(8) {
@@ -120,7 +121,7 @@ fn resize(words: &mut Vec<u32>, random: &mut Random) {
 fn compare_fresh(n: i64, mut lent: Tables, tally: &mut Tally) {
     let expected = tables::check_sizes(n, lent.nodes.len(), lent.channels.len());
     let after = match expected {
-        Ok(()) => tables::store(&reference::plot::Plot::fresh(n)),
+        Ok(()) => tables::store(&Plot::fresh(n)),
         Err(_) => lent.clone(),
     };
     let answer = ffi::fresh(n as u32, &mut lent.nodes, &mut lent.channels);
@@ -132,12 +133,17 @@ fn compare_fresh(n: i64, mut lent: Tables, tally: &mut Tally) {
     ));
 }
 
-/// Every room from none to more than the image: 14 exactly when it is below the image's length.
+/// Rooms from none to more than the image: 14 exactly when it is below the image's length, and never for tables with a time beyond its clock.
 pub fn small_rooms(seed: u64, tally: &mut Tally) {
     let mut random = Random::new(seed);
     let n = random.between(1, 16);
-    let lent = Beside::planted(planted::sound_plot(n, &mut random)).tables;
-    let right = image_of(n, &lent).len();
+    small_rooms_of(&planted::sound_plot(n, &mut random), &mut random, tally);
+    small_rooms_of(&planted::untimely_plot(n, &mut random), &mut random, tally);
+}
+
+fn small_rooms_of(plot: &Plot, random: &mut Random, tally: &mut Tally) {
+    let lent = tables::store(plot);
+    let right = image::write(plot).len();
     let rooms = [
         0,
         1,
@@ -150,6 +156,6 @@ pub fn small_rooms(seed: u64, tally: &mut Tally) {
         right + 100,
     ];
     for room in rooms {
-        compare_save(n, &lent, room, &mut random, tally);
+        compare_save(plot.n, &lent, room, random, tally);
     }
 }

@@ -38,7 +38,8 @@ fn j() {
         let mut plot = Plot::fresh(2);
         form(&mut plot, 1, 2);
         form(&mut plot, 2, 1);
-        waits(&mut plot, 1, [0, 0, 0, depth, -5, 2, 2], 1);
+        set_clock(&mut plot, 2, 5);
+        waits(&mut plot, 1, [0, 0, 0, depth, -5, 2, 2], 5);
         let event = Event::Receipt { from: 2, to: 1 };
         assert_eq!(outcome(plot, event), expected);
     }
@@ -51,6 +52,7 @@ fn k() {
         let mut plot = Plot::fresh(3);
         form(&mut plot, 1, 2);
         form(&mut plot, 1, 3);
+        set_clock(&mut plot, 1, waiting);
         for stamp in 1..=waiting {
             waits(&mut plot, 2, [0, 0, 0, 0, 0, 1, 1], stamp);
         }
@@ -90,6 +92,7 @@ fn m_sizes() {
     let mut plot = Plot::fresh(16);
     for (u, v) in ordered_pairs(16) {
         form(&mut plot, u, v);
+        set_clock(&mut plot, u, 8);
         for stamp in 1..=8 {
             waits(&mut plot, v, [0, 0, 0, 0, 0, u, u], stamp);
         }

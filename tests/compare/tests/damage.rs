@@ -3,6 +3,7 @@
 use compare::rounds::run;
 use compare::sizes::{self, compare_lengths};
 use compare::tally::Tally;
+use std::collections::BTreeSet;
 
 #[test]
 fn tables() {
@@ -19,6 +20,16 @@ fn tables() {
     tally.assert_met(&["draw 0", "draw 2", "draw 14"]);
     tally.assert_met(&["quiet 0", "groups 0", "quiet 2", "groups 2"]);
     tally.assert_met(&["group of 2", "group of 2 before 3", "group of 3"]);
+    tally.assert_met(&["check 18", "up 18", "down 18", "receipt 18"]);
+    tally.assert_met(&["save 18", "draw 18", "quiet 18", "groups 18"]);
+    tally.assert_met(&["group of 18", "group of 18 before 3"]);
+    assert_times_alone(&tally);
+}
+
+/// Damage to times alone leaves tables and images sound, or is refused for nothing else.
+fn assert_times_alone(tally: &Tally) {
+    let numbers = tally.numbers_at("times alone:");
+    assert_eq!(numbers, BTreeSet::from([0, 18]), "{tally}");
 }
 
 #[test]
@@ -29,6 +40,8 @@ fn images() {
     tally.assert_met(&["look 0", "look 1", "look 2", "look 3"]);
     tally.assert_met(&["look 10", "look 11", "look 12", "look 13"]);
     tally.assert_met(&["stations 0", "stations 10", "stations 11"]);
+    tally.assert_met(&["restore 18", "look 18"]);
+    assert_times_alone(&tally);
 }
 
 #[test]
@@ -50,6 +63,9 @@ fn sizes() {
         "group of 2",
         "group of 3",
     ]);
+    tally.assert_met(&["check 18", "up 18", "down 18", "receipt 18"]);
+    tally.assert_met(&["save 18", "restore 18", "draw 18"]);
+    tally.assert_met(&["quiet 18", "groups 18", "group of 18"]);
 }
 
 #[test]
@@ -64,5 +80,5 @@ fn seventeen_stations() {
 #[test]
 fn rooms() {
     let tally = run("small rooms", 100);
-    tally.assert_met(&["save 0", "save 14"]);
+    tally.assert_met(&["save 0", "save 14", "save 18"]);
 }

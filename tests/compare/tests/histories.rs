@@ -1,11 +1,12 @@
 //! Random histories beside the reference: after every event every answer field and every table word.
 
-use compare::beside::Beside;
+use compare::beside::compare_step;
 use compare::heights::assert_parted;
 use compare::rounds::run;
 use compare::tally::Tally;
 use reference::plot::{Height, Plot};
-use reference::step::{Event, Rule};
+use reference::step::Event;
+use reference::tables;
 
 /// The rules that each event can end in.
 const RULES: [&str; 12] = [
@@ -66,6 +67,12 @@ fn fresh_histories() {
     tally.assert_met(&DRAWN);
     // Not 2: levels of one time by two originators are rare here.
     assert_parted(&tally, &[1, 3, 4, 5, 6, 7]);
+    // Document 02, [3]: a grown plot, resumed or not, never meets 18; only images that were damaged do.
+    tally.assert_met(&["restore 18"]);
+    for call in ["up", "down", "receipt", "save", "draw", "quiet", "groups"] {
+        tally.assert_never(&[&format!("{call} 18")]);
+    }
+    tally.assert_never(&["group of 18", "group of 18 before 3"]);
 }
 
 /// From planted plots: clocks and depths at their ends and full channels.
@@ -80,43 +87,44 @@ fn planted_histories() {
     tally.assert_met(&ASKED);
     tally.assert_met(&DRAWN);
     assert_parted(&tally, &[1, 2, 3, 4, 5, 6, 7]);
+    tally.assert_met(&["planted: untimely"]);
+    assert!(tally.count("planted: untimely") * 10 < tally.count("planted: timely"));
+    for event in ["up", "down", "receipt"] {
+        let refused = tally.count(&format!("{event} 18"));
+        let all = tally.sum(&format!("{event} "));
+        assert!(
+            refused > 0 && refused * 10 < all,
+            "{event}: {refused} of {all}"
+        );
+    }
 }
 
-/// n = 3, station 1 linked to 2 and 3; a down of 3 leaves it a sink, or alone.
-fn about_to_lose_3(own: [i64; 7], clock: i64, views: &[[i64; 7]]) -> Beside {
+/// n = 3, station 1 at clock 9 with this height and 3 in F, about to lose 3.
+fn about_to_lose_3(own: [i64; 7], view: Option<[i64; 7]>) -> Plot {
     let mut plot = Plot::fresh(3);
     let station = plot.stations.get_mut(&1).expect("station 1");
-    station.clock = clock;
+    station.clock = 9;
     station.own = Height::of(own);
-    for &view in views {
-        station.linked.insert(view[6], Height::of(view));
-    }
     station.forming.insert(3);
-    Beside::planted(plot)
+    if let Some(view) = view {
+        station.linked.insert(2, Height::of(view));
+    }
+    plot
 }
 
-/// Document 01, 4.22: E, S, F, P and A send the height even where it is the old one.
+/// S or E on this down would give station 1 the height that it has: its time is one beyond the clock, so 18. One less, and it changes.
 #[test]
-fn a_height_that_stays_is_sent() {
-    let mut tally = Tally::default();
-    let event = Event::Down { u: 1, v: 3 };
-    let own = [10, 1, 0, 0, 0, 2, 1];
-    let mut beside = about_to_lose_3(own, 9, &[[10, 2, 0, 0, 0, 2, 2]]);
-    let answer = beside.step(event, &mut tally);
-    assert_eq!((answer.rule, answer.sent_to.len()), (Some(Rule::S), 1));
-    assert_eq!(beside.plot.station(1).own, Height::of(own));
-
-    let own = [0, 0, 0, 0, -10, 1, 1];
-    let mut beside = about_to_lose_3(own, 9, &[]);
-    beside
-        .plot
-        .stations
-        .get_mut(&1)
-        .expect("station 1")
-        .forming
-        .insert(2);
-    let mut beside = Beside::planted(beside.plot);
-    let answer = beside.step(event, &mut tally);
-    assert_eq!((answer.rule, answer.sent_to.len()), (Some(Rule::E), 1));
-    assert_eq!(beside.plot.station(1).own, Height::of(own));
+fn a_height_that_would_stay_is_refused() {
+    let view = Some([9, 2, 1, 0, 0, 2, 2]);
+    for (own, view, met) in [
+        ([10, 1, 0, 0, 0, 2, 1], view, "down 18"),
+        ([9, 1, 0, 0, 0, 2, 1], view, "down S"),
+        ([0, 0, 0, 0, -10, 1, 1], None, "down 18"),
+        ([0, 0, 0, 0, -9, 1, 1], None, "down E"),
+    ] {
+        let mut tally = Tally::default();
+        let lent = tables::store(&about_to_lose_3(own, view));
+        compare_step(3, Event::Down { u: 1, v: 3 }, &lent, &mut tally);
+        tally.assert_met(&[met]);
+    }
 }

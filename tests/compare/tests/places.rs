@@ -20,7 +20,7 @@ fn every_place_of_small_images() {
 #[test]
 fn some_places_of_large_images() {
     let tally = run("some places", 60);
-    tally.assert_met(&["look 0", "look 3", "look 13"]);
+    tally.assert_met(&["look 0", "look 3", "look 13", "look 18"]);
 }
 
 #[test]

@@ -13,6 +13,9 @@ use reference::step::Event;
 fn planted_groups() {
     let tally = run("planted groups", 3000);
     tally.assert_met(&["quiet 0", "groups 0", "group of 3"]);
+    tally.assert_met(&["quiet 18", "groups 18", "group of 18"]);
+    tally.assert_met(&["group of 18 before 3"]);
+    assert!(tally.count("quiet 18") * 10 < tally.count("quiet 0"));
     tally.assert_met(&[
         "group of 0, collectors: none",
         "group of 0, collectors: one",

@@ -31,7 +31,7 @@ fn arrows(plot: &Plot) -> Vec<(i64, i64)> {
         .collect()
 }
 
-/// Writes the drawing at the front of the room and tells its length, or refuses: 1, 2, 14.
+/// Writes the drawing at the front of the room and tells its length, or refuses: 1, 2, 18, 14.
 pub fn draw_into(
     n: i64,
     nodes: &[u32],

@@ -27,7 +27,7 @@ pub enum Rule {
 }
 
 /// 01, 4.25 and 4.26: number, rule and set, and what A and P carry. A refused one carries its number,
-/// 2 also u and v.
+/// 2 and 18 also u and v.
 #[derive(Clone, Debug, PartialEq, Eq)]
 pub struct Answer {
     pub number: i64,
@@ -74,7 +74,7 @@ impl Rule {
 }
 
 impl Answer {
-    /// The answer to a refused event: its number, and for 2 the pair (01, 5.4).
+    /// The answer to a refused event: its number, and for 2 (01, 5.4) and 18 the pair.
     pub fn refused(refusal: Refusal) -> Answer {
         Answer {
             number: refusal.number(),

@@ -75,7 +75,7 @@ fn write_station(writer: &mut Writer, plot: &Plot, u: i64) {
     }
 }
 
-/// 01, 6.23 and 6.24: the checks of writing. The answer is the image alone.
+/// 01, 6.23 and 6.24: the checks of writing, 18 before 14 (02, [3]). The answer is the image alone.
 pub fn save(n: i64, nodes: &[u32], channels: &[u32], room: usize) -> Result<Vec<u8>, Refusal> {
     let image = write(&load(n, nodes, channels)?);
     if image.len() > room {
@@ -147,7 +147,7 @@ fn walk_channel(reader: &mut Reader, u: i64, v: i64) -> Result<Vec<u32>, Refusal
     Ok(cell)
 }
 
-/// The walk, then the contents (01, 6.15): rules and order of faults are those of the tables.
+/// The walk, then the contents (01, 6.15) and the times (02, [3]): as for tables.
 fn read_plot(image: &[u8], n: i64) -> Result<Plot, Refusal> {
     let tables = walk(image, n)?;
     load(n, &tables.nodes, &tables.channels)

@@ -15,6 +15,7 @@
 //! | [`quiet`] | Lists of calls (demand 3: groups, collectors and chains) |
 //! | [`bench`] | The bench program |
 //! | [`drawing`] | none: request [2] of document 02 |
+//! | [`times`] | none: request [3] of document 02 |
 //!
 //! [`sketches`] has texts for the reader of [`drawing`], good and bad, for tests here and elsewhere.
 #![forbid(unsafe_code)]
@@ -36,6 +37,7 @@ pub mod sketches;
 mod sound;
 pub mod step;
 pub mod tables;
+pub mod times;
 
 #[cfg(test)]
 mod worked_arrows;
@@ -50,6 +52,8 @@ mod worked_heights;
 #[cfg(test)]
 mod worked_images;
 #[cfg(test)]
+mod worked_joined;
+#[cfg(test)]
 mod worked_lists;
 #[cfg(test)]
 mod worked_orders;
@@ -59,3 +63,7 @@ mod worked_plots;
 mod worked_rooms;
 #[cfg(test)]
 mod worked_sketches;
+#[cfg(test)]
+mod worked_times;
+#[cfg(test)]
+mod worked_untimely;

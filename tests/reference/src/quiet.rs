@@ -46,7 +46,7 @@ pub fn lowest_members(plot: &Plot) -> BTreeSet<i64> {
 }
 
 /// The group that station u is in (01, 2.23), or 3 for a number that is no station's (01, 5.5). The
-/// checks 1 and 2 come before: they are those of `load`.
+/// checks 1, 2 and 18 come before: they are those of `load`.
 pub fn group_of(plot: &Plot, u: i64) -> Result<Group, Refusal> {
     let mut all = groups(plot).into_iter();
     let members = all.find(|group| group.contains(&u));

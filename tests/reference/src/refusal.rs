@@ -1,7 +1,8 @@
-//! Document 01, "Returned numbers": the fifteen refusals; and those of request [2] of document 02.
+//! Document 01, "Returned numbers": the fifteen refusals; and those of requests [2] and [3] of document
+//! 02.
 
-/// The rows of the table, in its order (01, 5.3 to 5.17), then 16 and 17 (02, [2]). After each of them
-/// nothing lent has changed (5.2).
+/// The rows of the table, in its order (01, 5.3 to 5.17), then 16 and 17 (02, [2]) and 18 (02, [3]).
+/// After each of them nothing lent has changed (5.2).
 #[derive(Clone, Copy, Debug, PartialEq, Eq)]
 pub enum Refusal {
     /// 1: n, or the length of a lent table (01, 5.3)
@@ -38,6 +39,8 @@ pub enum Refusal {
     SketchForm,
     /// 17: a link that a sketch must not name (02, [2])
     SketchLink,
+    /// 18, with the pair: a time beyond its clock or its stamp (02, [3])
+    Untimely { u: i64, v: i64 },
 }
 
 impl Refusal {
@@ -61,13 +64,14 @@ impl Refusal {
             Refusal::BenchLine => 15,
             Refusal::SketchForm => 16,
             Refusal::SketchLink => 17,
+            Refusal::Untimely { .. } => 18,
         }
     }
 
-    /// The pair of 2, the first fault (01, 5.19).
+    /// The pair of 2, the first fault (01, 5.19), or of 18.
     pub fn pair(self) -> Option<(i64, i64)> {
         match self {
-            Refusal::Fault { u, v } => Some((u, v)),
+            Refusal::Fault { u, v } | Refusal::Untimely { u, v } => Some((u, v)),
             _ => None,
         }
     }

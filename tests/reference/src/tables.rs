@@ -1,10 +1,11 @@
-//! Document 01, "What a station holds" and "Returned numbers" (1 and 2), over the lent tables of
-//! words, laid out as `include/election.h` says.
+//! Document 01, "What a station holds" and "Returned numbers" (1 and 2, and with document 02 18), over
+//! the lent tables of words, laid out as `include/election.h` says.
 
 use crate::plot::{Height, MOST_STATIONS, MOST_WAITING, Message, Plot, Station};
 use crate::refusal::Refusal;
 use crate::sound::check_places;
 use crate::step::{Answer, Event};
+use crate::times::check_times;
 use std::collections::{BTreeMap, BTreeSet, VecDeque};
 
 /// 01, 2.8: the numbers of a height.
@@ -125,10 +126,9 @@ pub fn words_of_height(height: &Height) -> [u32; HEIGHT_WORDS] {
     ]
 }
 
-/// The checks 1 and 2 of a step and of writing (01, 5.18 and 6.23).
+/// The checks 1 and 2 of a step and of writing (01, 5.18 and 6.23), and 18 behind them (02, [3]).
 pub fn check(n: i64, nodes: &[u32], channels: &[u32]) -> Result<(), Refusal> {
-    check_sizes(n, nodes.len(), channels.len())?;
-    check_places(n, nodes, channels)
+    load(n, nodes, channels).map(|_| ())
 }
 
 /// 1: n, or the length of a lent table (01, 5.3).
@@ -137,9 +137,17 @@ pub fn check_sizes(n: i64, nodes: usize, channels: usize) -> Result<(), Refusal>
     good.then_some(()).ok_or(Refusal::Sizes)
 }
 
-/// The plot that the tables hold, after the checks 1 and 2.
+/// The plot that the tables hold, after the checks 1, 2 and 18.
 pub fn load(n: i64, nodes: &[u32], channels: &[u32]) -> Result<Plot, Refusal> {
-    check(n, nodes, channels)?;
+    check_sizes(n, nodes.len(), channels.len())?;
+    check_places(n, nodes, channels)?;
+    let plot = plot_of_words(n, nodes, channels);
+    check_times(&plot)?;
+    Ok(plot)
+}
+
+/// The plot of tables that have passed 1 and 2.
+fn plot_of_words(n: i64, nodes: &[u32], channels: &[u32]) -> Plot {
     let mut plot = Plot::fresh(n);
     for (u, station) in &mut plot.stations {
         *station = station_of_words(n, nodes, *u);
@@ -147,7 +155,7 @@ pub fn load(n: i64, nodes: &[u32], channels: &[u32]) -> Result<Plot, Refusal> {
     for ((u, v), waiting) in &mut plot.channels {
         *waiting = waiting_of_words(cell_words(n, channels, *u, *v));
     }
-    Ok(plot)
+    plot
 }
 
 /// 01, 2.1, 2.2 and 2.6: clock, sets, own height and views.
@@ -216,7 +224,8 @@ fn words_of_waiting(waiting: Option<&VecDeque<Message>>) -> Vec<u32> {
     cell
 }
 
-/// 01, 5.18: the order of the checks. A refusal changes nothing lent (5.2).
+/// 01, 5.18: the order of the checks, 18 between 2 and 3 (02, [3]). A refusal changes nothing lent
+/// (5.2).
 pub fn step(n: i64, event: Event, tables: &mut Tables) -> Answer {
     let mut plot = match load(n, &tables.nodes, &tables.channels) {
         Ok(plot) => plot,

@@ -5,18 +5,22 @@ use crate::dice::Dice;
 use crate::drawing::{draw, longest};
 use crate::plot::{Plot, ordered_pairs};
 use crate::step::step;
+use crate::times::first_untimely;
 use crate::worked_drawings::joined;
 use crate::worked_plots::{down, heard, hold, up};
 use std::collections::{BTreeMap, BTreeSet};
 
 /// Other own heights, of which neither the lower numbers have the higher ones nor the higher numbers.
+/// No clock goes back, and none is below the new times.
 pub(crate) fn stir(dice: &mut Dice, plot: &mut Plot) {
     for k in 1..=plot.n {
         let (time, leader) = (-dice.below(3), 1 + dice.below(plot.n));
         let depth = dice.below(7) - 3;
         let level = [[0, 0, 0], [5, k, 0], [5, 1, 1], [6, 1, 0]][dice.place(4)];
         let [tau, originator, bit] = level;
-        hold(plot, k, 9, [tau, originator, bit, depth, time, leader, k]);
+        let clock = plot.station(k).clock.max(9);
+        let own = [tau, originator, bit, depth, time, leader, k];
+        hold(plot, k, clock, own);
     }
 }
 
@@ -70,6 +74,7 @@ fn drawings_of_any_plot() {
         if seed % 2 == 0 {
             stir(&mut dice, &mut plot);
         }
+        assert_eq!(first_untimely(&plot), None);
         let arrows = arrows_of(&plot);
         assert!(arrows.windows(2).all(|two| two[0] < two[1]), "sorted");
         let own = |k: i64| plot.station(k).own;

@@ -4,6 +4,7 @@ use crate::drawing::draw;
 use crate::plot::Plot;
 use crate::step::Rule;
 use crate::tables::{load, store};
+use crate::times::first_untimely;
 use crate::worked_heights::worked;
 use crate::worked_plots::{down, form, heard, hold, link, plot_c, plot_i, send, takes, up};
 use std::cmp::Ordering;
@@ -21,11 +22,13 @@ pub(crate) fn joined(n: i64, links: &[(i64, i64)]) -> Plot {
 
 /// The whole drawing, of which the papers settle every byte.
 fn draws(plot: &Plot, due: &str) {
+    assert_eq!(first_untimely(plot), None);
     assert_eq!(String::from_utf8(draw(plot)).unwrap(), due);
 }
 
 /// The lines of the links alone.
 fn links_drawn(plot: &Plot) -> Vec<String> {
+    assert_eq!(first_untimely(plot), None);
     let text = String::from_utf8(draw(plot)).unwrap();
     let lines = text.lines().filter(|line| line.contains('>'));
     lines.map(String::from).collect()
@@ -150,6 +153,7 @@ fn one_way_channels() {
     form(&mut plot, 1, 2);
     link(&mut plot, 3, 1, [0, 0, 0, 0, 0, 1, 1]);
     form(&mut plot, 4, 3);
+    hold(&mut plot, 4, 1, [0, 0, 0, 0, 0, 4, 4]);
     send(&mut plot, 4, 3, [0, 0, 0, 0, 0, 4, 4], 1);
     assert_eq!(draw(&plot), draw(&Plot::fresh(4)));
     form(&mut plot, 1, 3);
@@ -162,11 +166,13 @@ fn one_way_channels() {
 #[test]
 fn own_heights_alone_decide() {
     let mut plot = Plot::fresh(2);
+    hold(&mut plot, 1, 9, [0, 0, 0, 0, 0, 1, 1]);
+    hold(&mut plot, 2, 7, [0, 0, 0, 0, 0, 2, 2]);
     link(&mut plot, 1, 2, [0, 0, 0, -9, 0, 2, 2]);
     link(&mut plot, 2, 1, [7, 2, 1, 9, 0, 1, 1]);
     send(&mut plot, 1, 2, [9, 1, 0, 9, 0, 1, 1], 9);
     assert_eq!(links_drawn(&plot), ["  2 -> 1;"]);
-    hold(&mut plot, 1, 0, [1, 2, 0, 0, 0, 1, 1]);
+    hold(&mut plot, 1, 9, [1, 2, 0, 0, 0, 1, 1]);
     assert_eq!(links_drawn(&plot), ["  1 -> 2;"]);
 }
 

@@ -62,6 +62,7 @@ fn quiet_asks_for_channels_and_messages() {
     assert!(!is_quiet(&plot), "3 to 1 is up one way");
     form(&mut plot, 1, 3);
     assert!(is_quiet(&plot), "whoever is a collector");
+    hold(&mut plot, 1, 1, [0, 0, 0, 0, 0, 1, 1]);
     send(&mut plot, 1, 3, [0, 0, 0, 0, 0, 1, 1], 1);
     assert!(!is_quiet(&plot), "a message waits");
 }

@@ -6,16 +6,16 @@ use crate::plot::Plot;
 use crate::refusal::Refusal;
 use crate::tables::{self, Tables, channels_len, nodes_len, row_len, store};
 use crate::worked_orders::plot_3;
-use crate::worked_plots::{form, send};
+use crate::worked_plots::{form, hold, send};
 
 /// The number that a resume of n stations' tables refuses the image with.
-fn resume_number(image: &[u8], n: i64) -> i64 {
+pub(crate) fn resume_number(image: &[u8], n: i64) -> i64 {
     let refused = resume(image, nodes_len(n), channels_len(n));
     refused.err().map_or(0, Refusal::number)
 }
 
 /// The image with one bit turned over.
-fn flipped(image: &[u8], bit: i64) -> Vec<u8> {
+pub(crate) fn flipped(image: &[u8], bit: i64) -> Vec<u8> {
     let mut other = image.to_vec();
     other[bit as usize / 8] ^= 128 >> (bit % 8);
     other
@@ -79,6 +79,7 @@ fn the_walk_12_or_2_whichever_comes_first_then_the_contents_2() {
 fn the_last_bit_is_no_pad() {
     let image = write(&plot_stamp());
     let last = image.len() as i64 * 8 - 1;
+    assert_eq!(resume_number(&image, 2), 0);
     assert_eq!(resume_number(&flipped(&image, last), 2), 0);
 }
 
@@ -86,6 +87,7 @@ fn the_last_bit_is_no_pad() {
 /// bit is the last message's stamp.
 fn plot_stamp() -> Plot {
     let mut plot = Plot::fresh(2);
+    hold(&mut plot, 2, 1, [0, 0, 0, 0, 0, 2, 2]);
     form(&mut plot, 2, 1);
     send(&mut plot, 2, 1, [0, 0, 0, 0, 0, 2, 2], 1);
     plot
@@ -94,6 +96,7 @@ fn plot_stamp() -> Plot {
 #[test]
 fn contents_are_judged_by_place_not_by_order_in_the_image() {
     let mut plot = Plot::fresh(2);
+    hold(&mut plot, 1, 1, [0, 0, 0, 0, 0, 1, 1]);
     form(&mut plot, 1, 2);
     send(&mut plot, 1, 2, [0, 0, 0, 0, 0, 1, 2], 1);
     plot.stations.get_mut(&2).unwrap().own.station = 1;
@@ -130,7 +133,7 @@ fn looking_checks_all_that_then_3_then_13() {
     assert_eq!(refused(&image, 2, place_of(3, 3) as u64, 21), 13);
     assert_eq!(refused(&image, 2, u64::MAX, 21), 13);
     let seen = look(&image, 2, place_of(3, 2) as u64, row_len(3)).unwrap();
-    assert_eq!((seen.clock, seen.linked, seen.forming), (0, 1, 4));
+    assert_eq!((seen.clock, seen.linked, seen.forming), (1, 1, 4));
     assert_eq!(seen.row, tables::store_row(&plot, 2));
 }
 

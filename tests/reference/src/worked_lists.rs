@@ -7,7 +7,8 @@ use crate::image::{longest, resume, save};
 use crate::plot::Plot;
 use crate::quiet::{is_quiet, settled};
 use crate::step::{Rule, is_sink, step};
-use crate::tables::{channels_len, nodes_len, store};
+use crate::tables::{self, channels_len, nodes_len, store};
+use crate::times::first_untimely;
 use crate::worked_plots::{down, form, heard, hold, link, send, stands, takes, up};
 use std::collections::BTreeSet;
 
@@ -24,21 +25,24 @@ fn calm(plot: &mut Plot, history: &mut History) {
             let answer = step(plot, heard(u, v));
             history.note(heard(u, v), &answer);
         }
+        assert_eq!(first_untimely(plot), None);
     }
 }
 
-/// A list of calls from the fresh plot of n: events with any numbers, saves and resumes. The
-/// tables agree with the history after each of its calls.
+/// A list of calls from the fresh plot of n: events with any numbers, saves and resumes. After each of
+/// them the tables agree with the history, and no call ever gives 18 (02, [3]).
 fn random_list(dice: &mut Dice, n: i64) -> (Plot, History) {
     let (mut plot, mut history) = (Plot::fresh(n), History::default());
     let mut saved: Option<(Vec<u8>, Plot, History)> = None;
     for _ in 0..dice.below(120) {
         let (u, v) = (dice.below(n + 2), dice.below(n + 2));
         let event = [up(u, v), down(u, v), heard(u, v), heard(u, v)][dice.below(4) as usize];
+        let mut tables = store(&plot);
         let answer = step(&mut plot, event);
+        assert_eq!(tables::step(n, event, &mut tables), answer);
+        assert_eq!(tables, store(&plot));
         history.note(event, &answer);
         if dice.below(9) == 0 {
-            let tables = store(&plot);
             let image = save(n, &tables.nodes, &tables.channels, longest(n)).unwrap();
             saved = Some((image, plot.clone(), history.clone()));
         }
@@ -48,6 +52,7 @@ fn random_list(dice: &mut Dice, n: i64) -> (Plot, History) {
             assert_eq!(plot, *then, "the plot at the save");
         }
         assert_eq!(history.agrees(&plot), Ok(()));
+        assert_eq!(first_untimely(&plot), None, "18 from a grown plot");
     }
     (plot, history)
 }
@@ -100,20 +105,6 @@ fn down_of_a_forming_channel() {
     stands(&plot, 2, 5, [5, 2, 0, 0, 0, 1, 2]);
 }
 
-/// Reading: after a rule that changes heights (01, 4.22) the height goes out, also if it is the old one
-/// again.
-#[test]
-fn a_level_started_again_is_sent() {
-    let mut plot = Plot::fresh(3);
-    hold(&mut plot, 2, 4, [5, 2, 0, 0, 0, 1, 2]);
-    form(&mut plot, 2, 3);
-    form(&mut plot, 3, 2);
-    send(&mut plot, 3, 2, [9, 1, 1, 0, 0, 1, 3], 2);
-    takes(&mut plot, heard(3, 2), Rule::S, &[3]);
-    stands(&plot, 2, 5, [5, 2, 0, 0, 0, 1, 2]);
-    assert_eq!(plot.waiting(2, 3).len(), 1);
-}
-
 /// 01, 4.1: one view of another pair keeps a station from acting on a message of its own pair.
 #[test]
 fn another_pair_in_view_keeps_a_station_quiet() {
@@ -121,6 +112,7 @@ fn another_pair_in_view_keeps_a_station_quiet() {
     hold(&mut plot, 2, 4, [0, 0, 0, 1, 0, 1, 2]);
     link(&mut plot, 2, 1, [0, 0, 0, 5, 0, 3, 1]);
     form(&mut plot, 2, 3);
+    hold(&mut plot, 3, 2, [0, 0, 0, 2, 0, 1, 3]);
     form(&mut plot, 3, 2);
     send(&mut plot, 3, 2, [0, 0, 0, 2, 0, 1, 3], 2);
     takes(&mut plot, heard(3, 2), Rule::Q, &[]);

@@ -6,10 +6,11 @@ use crate::plot::{LAST_CLOCK, LEAST_DEPTH, MOST_DEPTH, Plot};
 use crate::refusal::Refusal;
 use crate::step::{Event, step};
 use crate::tables::{self, CELL_WORDS, Tables, check, station_len, store};
+use crate::times::first_untimely;
 use crate::worked_plots::{down, form, heard, hold, link, plot_c, plot_i, plot_j, send, up};
 
 /// The number of a step over tables, which leaves them as they were.
-fn refuses(n: i64, event: Event, tables: &Tables) -> (i64, Option<(i64, i64)>) {
+pub(crate) fn refuses(n: i64, event: Event, tables: &Tables) -> (i64, Option<(i64, i64)>) {
     let mut lent = tables.clone();
     let answer = tables::step(n, event, &mut lent);
     assert_ne!(answer.number, 0, "{event:?}");
@@ -18,15 +19,16 @@ fn refuses(n: i64, event: Event, tables: &Tables) -> (i64, Option<(i64, i64)>) {
     (answer.number, answer.fault)
 }
 
-/// The number of a refused step over a plot, which leaves it as it was.
+/// The number of a step over a plot whose times make sense; a refused one leaves it as it was.
 fn number(plot: &Plot, event: Event) -> i64 {
+    assert_eq!(first_untimely(plot), None, "before {event:?}");
     let mut lent = plot.clone();
     let answer = step(&mut lent, event);
     assert_eq!(answer.number != 0, lent == *plot, "{event:?}");
     answer.number
 }
 
-/// The pair of refusal 2 after some words of sound tables are written over.
+/// The pair of refusal 2 after some words of sound tables are written over; none if they pass.
 fn fault(plot: &Plot, nodes: &[(usize, u32)], channels: &[(usize, u32)]) -> Option<(i64, i64)> {
     let mut tables = store(plot);
     nodes
@@ -35,13 +37,17 @@ fn fault(plot: &Plot, nodes: &[(usize, u32)], channels: &[(usize, u32)]) -> Opti
     channels
         .iter()
         .for_each(|(place, word)| tables.channels[*place] = *word);
-    let refused = check(plot.n, &tables.nodes, &tables.channels);
-    refused.err().and_then(Refusal::pair)
+    match check(plot.n, &tables.nodes, &tables.channels) {
+        Ok(()) => None,
+        Err(Refusal::Fault { u, v }) => Some((u, v)),
+        Err(other) => panic!("{other:?}"),
+    }
 }
 
 /// Three stations; 2 has 1 in N and 3 in F and one message waiting for 3.
 pub(crate) fn plot_3() -> Plot {
     let mut plot = Plot::fresh(3);
+    hold(&mut plot, 2, 1, [0, 0, 0, 0, 0, 2, 2]);
     link(&mut plot, 2, 1, [0, 0, 0, 0, 0, 1, 1]);
     form(&mut plot, 2, 3);
     send(&mut plot, 2, 3, [0, 0, 0, 0, 0, 2, 2], 1);
@@ -56,7 +62,7 @@ fn places(u: usize, v: usize) -> (usize, usize, usize) {
 }
 
 #[test]
-fn numbers_1_to_17_are_in_order() {
+fn numbers_1_to_18_are_in_order() {
     let all = [
         Refusal::Sizes,
         Refusal::Fault { u: 4, v: 5 },
@@ -75,10 +81,14 @@ fn numbers_1_to_17_are_in_order() {
         Refusal::BenchLine,
         Refusal::SketchForm,
         Refusal::SketchLink,
+        Refusal::Untimely { u: 6, v: 7 },
     ];
     let numbers: Vec<i64> = all.into_iter().map(Refusal::number).collect();
-    assert_eq!(numbers, (1..=17).collect::<Vec<i64>>());
+    assert_eq!(numbers, (1..=18).collect::<Vec<i64>>());
     assert_eq!(all[1].pair(), Some((4, 5)));
+    assert_eq!(all[17].pair(), Some((6, 7)));
+    let pairs = all.into_iter().filter(|refusal| refusal.pair().is_some());
+    assert_eq!(pairs.count(), 2);
 }
 
 #[test]
@@ -134,14 +144,13 @@ fn faults_at_the_place_of_the_station() {
     ] {
         assert_eq!(fault(&plot, &words, &[]), Some((2, 2)), "{words:?}");
     }
-    assert_eq!(
-        fault(&plot, &[(own, 5), (own + 1, 3), (own + 2, 1)], &[]),
-        None
-    );
-    assert_eq!(
-        fault(&plot, &[(own + 3, 0xFFFF_8000), (own + 4, u32::MAX)], &[]),
-        None
-    );
+    let late = (station, u32::MAX);
+    for level in [[(own, 5), (own + 1, 3)], [(own, u32::MAX), (own + 1, 1)]] {
+        let words = [late, level[0], level[1], (own + 2, 1)];
+        assert_eq!(fault(&plot, &words, &[]), None, "{words:?}");
+    }
+    let ends = [late, (own + 3, 0xFFFF_8000), (own + 4, u32::MAX)];
+    assert_eq!(fault(&plot, &ends, &[]), None);
     assert_eq!(fault(&plot, &[(own + 3, 0xFFFF_7FFF)], &[]), Some((2, 2)));
     assert_eq!(
         fault(&plot, &[], &[(diagonal + 64, 1)]),
@@ -168,8 +177,8 @@ fn faults_of_views() {
 fn faults_of_channels() {
     let plot = plot_3();
     let (station, _, cell) = places(2, 3);
-    let stamp = [(cell + 8, u32::MAX)];
-    assert_eq!(fault(&plot, &[], &stamp), None, "any stamp");
+    let (late, stamp) = ([(station, u32::MAX)], [(cell + 8, u32::MAX)]);
+    assert_eq!(fault(&plot, &late, &stamp), None, "any stamp");
     let count = [(0, 0), (0, 2), (0, 9), (0, u32::MAX)];
     let message = [(1, 1), (4, 40_000), (6, 0), (7, 3)];
     let unused = [(9, 1), (64, 1)];
@@ -207,6 +216,7 @@ fn clock_7_before_depth_8_before_room_9() {
     let mut plot = plot_j(MOST_DEPTH);
     full(&mut plot, 2, 1);
     assert_eq!(number(&plot, heard(1, 2)), 8);
+    hold(&mut plot, 1, LAST_CLOCK, [0, 0, 0, 0, -5, 1, 1]);
     plot.waiting_mut(1, 2)[0].stamp = LAST_CLOCK;
     assert_eq!(number(&plot, heard(1, 2)), 7, "by the stamp");
     plot.stations.get_mut(&2).unwrap().forming.clear();

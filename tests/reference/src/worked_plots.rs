@@ -7,6 +7,7 @@ use crate::plot::{Height, LAST_CLOCK, LEAST_DEPTH, Level, MOST_DEPTH, Message, P
 use crate::quiet::{chain_falls, collectors, groups, is_quiet, settled};
 use crate::step::{Answer, Event, Rule, is_sink, step};
 use crate::tables::{channels_len, load, nodes_len, row_len, store};
+use crate::times::first_untimely;
 use std::collections::BTreeSet;
 
 /// "U u v".
@@ -48,8 +49,10 @@ pub(crate) fn send(plot: &mut Plot, u: i64, v: i64, height: [i64; 7], stamp: i64
     plot.waiting_mut(u, v).push_back(Message { height, stamp });
 }
 
-/// Steps, which has to be accepted under the rule and send to the set.
+/// Steps, which has to be accepted under the rule and send to the set. The tables pass before and
+/// afterwards.
 pub(crate) fn takes(plot: &mut Plot, event: Event, rule: Rule, sent_to: &[i64]) -> Answer {
+    assert_eq!(first_untimely(plot), None, "before {event:?}");
     let answer = step(plot, event);
     let set: BTreeSet<i64> = sent_to.iter().copied().collect();
     assert_eq!((answer.number, answer.rule), (0, Some(rule)), "{event:?}");
@@ -166,6 +169,8 @@ fn case_i() {
 /// Station 2 with 1 forming, about to hear a smaller pair at this depth.
 pub(crate) fn plot_j(depth: i64) -> Plot {
     let mut plot = Plot::fresh(2);
+    hold(&mut plot, 1, 5, [0, 0, 0, depth, -5, 1, 1]);
+    hold(&mut plot, 2, 1, [0, 0, 0, 0, 0, 2, 2]);
     form(&mut plot, 1, 2);
     form(&mut plot, 2, 1);
     send(&mut plot, 1, 2, [0, 0, 0, depth, -5, 1, 1], 5);
@@ -203,8 +208,9 @@ fn case_m() {
     }
     let mut plot = Plot::fresh(16);
     for (u, v) in crate::plot::ordered_pairs(16) {
+        hold(&mut plot, u, 9, [0, 0, 0, 0, -9, u, u]);
         form(&mut plot, u, v);
-        (0..8).for_each(|_| send(&mut plot, u, v, [0, 0, 0, -7, -9, u, u], 1));
+        (0..8).for_each(|_| send(&mut plot, u, v, [0, 0, 0, -7, -9, u, u], 9));
     }
     let image = write(&plot);
     assert_eq!((image.len(), longest(16)), (34_044, 34_044));

@@ -1,4 +1,4 @@
--- `drawing::draw` meets its contract: refused with 1 or 2 by the check, or the drawing of checked tables.
+-- `drawing::draw` meets its contract: refused with 1, 2 or 18 by the check, or the drawing of checked tables.
 use mathlib.Core.Path.{_∙_}
 use borrow.Author.Needs.{needs}
 use Rattle.lent.proofs.PutLaws.{passes, put-sound, put-turned-away}

@@ -1,4 +1,4 @@
--- `groups::group_of` meets its contract: refused with 1 or 2 by the check, or by the node's number.
+-- `groups::group_of` meets its contract: refused with 1, 2 or 18 by the check, or by the node's number.
 use mathlib.Core.Path.{_∙_}
 use borrow.Author.Needs.{needs}
 use Rattle.groups.specs.Group.{groupOn}

@@ -1,4 +1,4 @@
--- `groups::heads` meets its contract: refused with 1 or 2 by the check, or answered on tables that pass.
+-- `groups::heads` meets its contract: refused with 1, 2 or 18 by the check, or answered on tables that pass.
 use mathlib.Core.Path.{ap, _∙_}
 use borrow.Author.Needs.{needs}
 use Prim.Native.Nat.{ℕ}

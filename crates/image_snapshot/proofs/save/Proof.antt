@@ -1,4 +1,4 @@
--- `image_snapshot::save` meets its contract: refused with 1 or 2 by the check, or the save of checked tables.
+-- `image_snapshot::save` meets its contract: refused with 1, 2 or 18 by the check, or the save of checked tables.
 use borrow.Author.Needs.{needs}
 use Rattle.image_snapshot.specs.Save.{saveOn}
 use Rattle.lent.proofs.PutLaws.{passes, put-sound, put-turned-away}

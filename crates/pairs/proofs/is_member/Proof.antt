@@ -1,18 +1,18 @@
--- `pairs::is_member` meets its contract: the bits above node 16 do not count.
-use mathlib.Core.Path.{_∙_}
+-- `pairs::is_member` meets its contract: node v is bit v - 1, and the bits above it do not count.
+use native.Mathlib.Omega.{arith}
 use borrow.Author.Needs.{needs}
-use Rattle.pairs.proofs.PairLaws.{low-member}
+use Rattle.pairs.proofs.PairLaws.{bit-member}
 use Rattle.pairs.proofs.is_member.Statement.{statement}
 use Rattle.pairs.proofs.is_member.Tie as tie
 
-cast-contains : tie.Need-cast-contains
-cast-contains c = search needs
+sub-result : tie.Need-sub-result
+sub-result c = omega (arith, c .pre .0)
 
-contains-requires : tie.Need-contains-requires
-contains-requires c κs = search needs
+shr-result : tie.Need-shr-result
+shr-result c = omega (arith, c .pre .0, c .pre .1)
 
 returns : tie.Need-returns
-returns c = c .contains .ensures ∙ low-member 16 (c .before .args .word) (c .before .args .v) (c .before .pre)
+returns c = bit-member (c .args .word) (c .args .v) (c .pre .0)
 
 pub is-member-spec : {M : Type 1} → statement M
-is-member-spec = tie.close (tie.spec cast-contains contains-requires returns)
+is-member-spec = tie.close (tie.spec sub-result shr-result returns)

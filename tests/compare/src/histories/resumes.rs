@@ -50,7 +50,11 @@ impl Run {
     /// Document 01, 7.4: bytes that a resume refuses; the tables stay.
     pub(super) fn bad_resume(&mut self, tally: &mut Tally) {
         let mut bytes = image::write(&self.beside.plot);
-        damage::damage_image(&mut bytes, &self.beside.plot, &mut self.random);
+        if self.random.chance(20) {
+            damage::damage_image_times(&mut bytes, &self.beside.plot, &mut self.random);
+        } else {
+            damage::damage_image(&mut bytes, &self.beside.plot, &mut self.random);
+        }
         let lent = &self.beside.tables;
         if image::resume(&bytes, lent.nodes.len(), lent.channels.len()).is_err() {
             compare_restore(&bytes, lent.clone(), tally);

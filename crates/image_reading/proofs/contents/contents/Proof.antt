@@ -20,14 +20,14 @@ add-w c = search needs
 array-borrow-prefix-row : tie.Need-array-borrow-prefix-row
 array-borrow-prefix-row c = search needs
 
-slice-aggregate-first-fault : tie.Need-slice-aggregate-first-fault
-slice-aggregate-first-fault c = simp length-take (omega arith)
+slice-aggregate-search-rows : tie.Need-slice-aggregate-search-rows
+slice-aggregate-search-rows c = simp length-take (omega arith)
 
-slice-aggregate-first-fault-2 : tie.Need-slice-aggregate-first-fault-2
-slice-aggregate-first-fault-2 c = search needs
+slice-aggregate-search-rows-2 : tie.Need-slice-aggregate-search-rows-2
+slice-aggregate-search-rows-2 c = search needs
 
-first-fault-requires : tie.Need-first-fault-requires
-first-fault-requires c κs =
+search-rows-requires : tie.Need-search-rows-requires
+search-rows-requires c κs =
     let s = c .before .before .before .before .before in
     (s .pre .0, s .pre .1, s .pre .2, simp length-take (omega arith), c .before .before .blank-cell .ensures, s .pre .3)
 
@@ -43,7 +43,7 @@ contents-spec =
     mul-w
     add-w
     array-borrow-prefix-row
-    slice-aggregate-first-fault
-    slice-aggregate-first-fault-2
-    first-fault-requires
+    slice-aggregate-search-rows
+    slice-aggregate-search-rows-2
+    search-rows-requires
     returns)

@@ -1,4 +1,4 @@
--- `image_snapshot::restoring::headed` meets its contract: 1, 2 or 12, or the tables of the image.
+-- `image_snapshot::restoring::headed` meets its contract: 1, 2, 12 or 18, or the tables of the image.
 use mathlib.Core.Path.{sym, ap, _∙_}
 use borrow.Author.Tests.{not-true, not-false}
 use Rattle.lent.proofs.CheckLaws.{sized-is}
