@@ -19,7 +19,8 @@ use Rattle.tables.proofs.TablesLaws.{tables-back}
 use Rattle.image_snapshot.specs.Restore.{restoreExamined, restoreOf, restoreHeaded, restoreOn}
 use Rattle.image_snapshot.proofs.ImageLaws.{image-header, image-tables, image-examined}
 
-pub restore-image : (n : ℕ) → 1 ≤ n → n ≤ 16 → (p : Network) → sound n p ≡ true → restrict n p ≡ p → timely n p ≡ true → (t : Tables) → sized n t ≡ true
+pub restore-image : (n : ℕ) → 1 ≤ n → n ≤ 16 → (p : Network) → sound n p ≡ true → restrict n p ≡ p → timely n p ≡ true
+    → (t : Tables) → sized n t ≡ true
     → restoreOn (image n p) t ≡ outcome (why 0 0 0) (tablesOf n p)
 unfolding restoreOn restoreHeaded restoreOf restoreExamined
 restore-image n low few p holds inside times t fit =

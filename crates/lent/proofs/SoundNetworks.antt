@@ -203,7 +203,8 @@ module _ (n : ℕ) (p : Network) (ok : Storable n p) (holds : sound n p ≡ true
       go : (u ≡ v) ⊎ (u ≡ v → ⊥) → cond (eqb u v) (ownHolds n p u) (viewHolds n p u v && channelHolds n p u v) ≡ true → length (p .channel u v) ≤ 8
       go (inl e) h =
           let own = rw (eq-eqb u v e) at h in
-          let empty = is-empty (p .channel u u) (and-right (leb (p .clock u) 4294967295 && setsHold n u (p .neighbors u) (p .forming u) && heightHolds n u (p .height u u)) (isEmpty (p .channel u u)) own) in
+          let rules = leb (p .clock u) 4294967295 && setsHold n u (p .neighbors u) (p .forming u) && heightHolds n u (p .height u u) in
+          let empty = is-empty (p .channel u u) (and-right rules (isEmpty (p .channel u u)) own) in
           omega (arith, ap (λ (x : ℕ). length (p .channel u x)) (sym e), ap length empty)
       go (inr d) h =
           let q : (viewHolds n p u v && channelHolds n p u v) ≡ true = rw (ne-eqb u v d) at h in

@@ -181,7 +181,8 @@ unfolding bits number unpacked packed field spread gathered stepAt stepChecked s
     deltaWord heightWords heightAt headerBits nodeBits messageBits channelBits channelsBits networkBits padded bytesOf imageOf image fieldIn
     heightFrom messagesOf channelFrom walked channelNext channelsNext channelsPlace channelsFromPlace channelPlace imageEnd recordsIn
     tablesIn recordsOf rowWords slotWords cellWords tablesFrom recordBits extendedOf recordOf heightWidth messageWidth nodeWidth pairAt
-    faultInRow faultFrom firstFault firstUntimely contentsOn checkOn timelyAt timelyIn timesWithin messageTimely member setOf within ownSound viewSound channelSound pairSound every everyPair all update levelHolds
+    faultInRow faultFrom firstFault firstUntimely contentsOn checkOn timelyAt timelyIn timesWithin messageTimely member setOf within
+    ownSound viewSound channelSound pairSound every everyPair all update levelHolds
     deltaHolds leaderPairHolds heightHolds messageHolds notInBoth setsHold misnamed late hasRoom crowded returned accepts answer next absent
     downRule larger largest deltas ofLevel oneLevelRule equalPairsRule receiptRule above sink carried localUp localDown localIgnored
     localTaken post commit step afterWalk examined headerHolds headerOf channelStep onward steps channelsFromWalk channelsWalk walk endsAt

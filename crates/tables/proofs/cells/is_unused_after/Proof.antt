@@ -32,7 +32,9 @@ mul-p-2 : tie.Need-mul-p-2 Inv-loop μ-loop
 mul-p-2 c = omega (arith, c .before .before .loop .inv .at, c .before .before .loop .inv .high, c .before .before .before .before .before .pre .0)
 
 shared-slice-read-p-2 : tie.Need-shared-slice-read-p-2 Inv-loop μ-loop
-shared-slice-read-p-2 c = omega (arith, c .before .before .before .loop .inv .at, c .before .before .before .loop .inv .high, c .before .before .before .before .before .before .pre .0)
+shared-slice-read-p-2 c =
+    let l = c .before .before .before in
+    omega (arith, l .loop .inv .at, l .loop .inv .high, l .before .before .before .pre .0)
 
 add-q : tie.Need-add-q Inv-loop μ-loop
 add-q c = omega (arith, c .before .before .before .loop .inv .at, c .before .before .before .loop .inv .high, c .before .before .before .before .before .before .pre .0)
@@ -41,61 +43,99 @@ mul-q : tie.Need-mul-q Inv-loop μ-loop
 mul-q c = omega (arith, c .before .before .before .loop .inv .at, c .before .before .before .loop .inv .high, c .before .before .before .before .before .before .pre .0)
 
 shared-slice-read-q : tie.Need-shared-slice-read-q Inv-loop μ-loop
-shared-slice-read-q c = omega (arith, c .before .before .before .before .loop .inv .at, c .before .before .before .before .loop .inv .high, c .before .before .before .before .before .before .before .pre .0)
+shared-slice-read-q c =
+    let l = c .before .before .before .before in
+    omega (arith, l .loop .inv .at, l .loop .inv .high, l .before .before .before .pre .0)
 
 add-q-2 : tie.Need-add-q-2 Inv-loop μ-loop
-add-q-2 c = omega (arith, c .before .before .before .before .loop .inv .at, c .before .before .before .before .loop .inv .high, c .before .before .before .before .before .before .before .pre .0)
+add-q-2 c =
+    let l = c .before .before .before .before in
+    omega (arith, l .loop .inv .at, l .loop .inv .high, l .before .before .before .pre .0)
 
 mul-q-2 : tie.Need-mul-q-2 Inv-loop μ-loop
-mul-q-2 c = omega (arith, c .before .before .before .before .loop .inv .at, c .before .before .before .before .loop .inv .high, c .before .before .before .before .before .before .before .pre .0)
+mul-q-2 c =
+    let l = c .before .before .before .before in
+    omega (arith, l .loop .inv .at, l .loop .inv .high, l .before .before .before .pre .0)
 
 shared-slice-read-q-2 : tie.Need-shared-slice-read-q-2 Inv-loop μ-loop
-shared-slice-read-q-2 c = omega (arith, c .before .before .before .before .before .loop .inv .at, c .before .before .before .before .before .loop .inv .high, c .before .before .before .before .before .before .before .before .pre .0)
+shared-slice-read-q-2 c =
+    let l = c .before .before .before .before .before in
+    omega (arith, l .loop .inv .at, l .loop .inv .high, l .before .before .before .pre .0)
 
 add-r : tie.Need-add-r Inv-loop μ-loop
-add-r c = omega (arith, c .before .before .before .before .before .loop .inv .at, c .before .before .before .before .before .loop .inv .high, c .before .before .before .before .before .before .before .before .pre .0)
+add-r c =
+    let l = c .before .before .before .before .before in
+    omega (arith, l .loop .inv .at, l .loop .inv .high, l .before .before .before .pre .0)
 
 mul-r : tie.Need-mul-r Inv-loop μ-loop
-mul-r c = omega (arith, c .before .before .before .before .before .loop .inv .at, c .before .before .before .before .before .loop .inv .high, c .before .before .before .before .before .before .before .before .pre .0)
+mul-r c =
+    let l = c .before .before .before .before .before in
+    omega (arith, l .loop .inv .at, l .loop .inv .high, l .before .before .before .pre .0)
 
 shared-slice-read-r : tie.Need-shared-slice-read-r Inv-loop μ-loop
-shared-slice-read-r c = omega (arith, c .before .before .before .before .before .before .loop .inv .at, c .before .before .before .before .before .before .loop .inv .high, c .before .before .before .before .before .before .before .before .before .pre .0)
+shared-slice-read-r c =
+    let l = c .before .before .before .before .before .before in
+    omega (arith, l .loop .inv .at, l .loop .inv .high, l .before .before .before .pre .0)
 
 add-r-2 : tie.Need-add-r-2 Inv-loop μ-loop
-add-r-2 c = omega (arith, c .before .before .before .before .before .before .loop .inv .at, c .before .before .before .before .before .before .loop .inv .high, c .before .before .before .before .before .before .before .before .before .pre .0)
+add-r-2 c =
+    let l = c .before .before .before .before .before .before in
+    omega (arith, l .loop .inv .at, l .loop .inv .high, l .before .before .before .pre .0)
 
 mul-r-2 : tie.Need-mul-r-2 Inv-loop μ-loop
-mul-r-2 c = omega (arith, c .before .before .before .before .before .before .loop .inv .at, c .before .before .before .before .before .before .loop .inv .high, c .before .before .before .before .before .before .before .before .before .pre .0)
+mul-r-2 c =
+    let l = c .before .before .before .before .before .before in
+    omega (arith, l .loop .inv .at, l .loop .inv .high, l .before .before .before .pre .0)
 
 shared-slice-read-r-2 : tie.Need-shared-slice-read-r-2 Inv-loop μ-loop
-shared-slice-read-r-2 c = omega (arith, c .before .before .before .before .before .before .before .loop .inv .at, c .before .before .before .before .before .before .before .loop .inv .high, c .before .before .before .before .before .before .before .before .before .before .pre .0)
+shared-slice-read-r-2 c =
+    let l = c .before .before .before .before .before .before .before in
+    omega (arith, l .loop .inv .at, l .loop .inv .high, l .before .before .before .pre .0)
 
 add-s : tie.Need-add-s Inv-loop μ-loop
-add-s c = omega (arith, c .before .before .before .before .before .before .before .loop .inv .at, c .before .before .before .before .before .before .before .loop .inv .high, c .before .before .before .before .before .before .before .before .before .before .pre .0)
+add-s c =
+    let l = c .before .before .before .before .before .before .before in
+    omega (arith, l .loop .inv .at, l .loop .inv .high, l .before .before .before .pre .0)
 
 mul-s : tie.Need-mul-s Inv-loop μ-loop
-mul-s c = omega (arith, c .before .before .before .before .before .before .before .loop .inv .at, c .before .before .before .before .before .before .before .loop .inv .high, c .before .before .before .before .before .before .before .before .before .before .pre .0)
+mul-s c =
+    let l = c .before .before .before .before .before .before .before in
+    omega (arith, l .loop .inv .at, l .loop .inv .high, l .before .before .before .pre .0)
 
 shared-slice-read-s : tie.Need-shared-slice-read-s Inv-loop μ-loop
-shared-slice-read-s c = omega (arith, c .before .before .before .before .before .before .before .before .loop .inv .at, c .before .before .before .before .before .before .before .before .loop .inv .high, c .before .before .before .before .before .before .before .before .before .before .before .pre .0)
+shared-slice-read-s c =
+    let l = c .before .before .before .before .before .before .before .before in
+    omega (arith, l .loop .inv .at, l .loop .inv .high, l .before .before .before .pre .0)
 
 add-s-2 : tie.Need-add-s-2 Inv-loop μ-loop
-add-s-2 c = omega (arith, c .before .before .before .before .before .before .before .before .loop .inv .at, c .before .before .before .before .before .before .before .before .loop .inv .high, c .before .before .before .before .before .before .before .before .before .before .before .pre .0)
+add-s-2 c =
+    let l = c .before .before .before .before .before .before .before .before in
+    omega (arith, l .loop .inv .at, l .loop .inv .high, l .before .before .before .pre .0)
 
 mul-s-2 : tie.Need-mul-s-2 Inv-loop μ-loop
-mul-s-2 c = omega (arith, c .before .before .before .before .before .before .before .before .loop .inv .at, c .before .before .before .before .before .before .before .before .loop .inv .high, c .before .before .before .before .before .before .before .before .before .before .before .pre .0)
+mul-s-2 c =
+    let l = c .before .before .before .before .before .before .before .before in
+    omega (arith, l .loop .inv .at, l .loop .inv .high, l .before .before .before .pre .0)
 
 shared-slice-read-s-2 : tie.Need-shared-slice-read-s-2 Inv-loop μ-loop
-shared-slice-read-s-2 c = omega (arith, c .before .before .before .before .before .before .before .before .before .loop .inv .at, c .before .before .before .before .before .before .before .before .before .loop .inv .high, c .before .before .before .before .before .before .before .before .before .before .before .before .pre .0)
+shared-slice-read-s-2 c =
+    let l = c .before .before .before .before .before .before .before .before .before in
+    omega (arith, l .loop .inv .at, l .loop .inv .high, l .before .before .before .pre .0)
 
 add-i : tie.Need-add-i Inv-loop μ-loop
-add-i c = omega (arith, c .before .before .before .before .before .before .before .before .before .loop .inv .at, c .before .before .before .before .before .before .before .before .before .loop .inv .high, c .before .before .before .before .before .before .before .before .before .before .before .before .pre .0)
+add-i c =
+    let l = c .before .before .before .before .before .before .before .before .before in
+    omega (arith, l .loop .inv .at, l .loop .inv .high, l .before .before .before .pre .0)
 
 loop-less : tie.Need-loop-less Inv-loop μ-loop
-loop-less c = omega (arith, c .before .before .before .before .before .before .before .before .before .loop .inv .at, c .before .before .before .before .before .before .before .before .before .loop .inv .high)
+loop-less c =
+    let l = c .before .before .before .before .before .before .before .before .before in
+    omega (arith, l .loop .inv .at, l .loop .inv .high)
 
 loop-again : tie.Need-loop-again Inv-loop μ-loop
-loop-again c = slots-next _ (c .before .before .before .before .before .before .before .before .before .before .before .before .pre .0) _ _ _ _ _ _ (c .before .before .before .before .before .before .before .before .before .loop .inv) (c .before .before .before .before .before .before .before .before .loop-test .taken)
+loop-again c =
+    let l = c .before .before .before .before .before .before .before .before .before in
+    slots-next _ (l .before .before .before .pre .0) _ _ _ _ _ _ (l .loop .inv) (c .before .before .before .before .before .before .before .before .loop-test .taken)
 
 returns : tie.Need-returns Inv-loop μ-loop
 returns c = slots-done _ (c .before .before .before .before .pre .0) _ _ _ _ _ _ (c .before .loop .inv) (c .loop-test .left)
