@@ -43,7 +43,7 @@ pub struct Row {
     pub times: Times,
 }
 
-type Question = fn(u32, &[u32], &[u32]) -> abi::Value;
+type Look<A> = fn(u32, &[u32], &[u32]) -> A;
 type Event = fn(u32, u32, u32, &mut [u32], &mut [u32]) -> abi::Answer;
 
 /// The machine may be faster or slower for seconds, so all rows are measured in each of these rounds.
@@ -133,13 +133,20 @@ fn one_round(case: Case, batches: usize) -> Samples {
         Kind::Refusal => refusal(&plots, batches),
         Kind::UpDown => up_down(&plots, batches),
         Kind::Receipt => receipt(&plots, batches),
-        Kind::Check => check(&plots, batches),
+        Kind::Check => look(abi::check, plain::check, |a| a.number, &plots, batches),
         Kind::Save => save(&plots, batches),
         Kind::Restore => restore(&plots, batches),
         Kind::ReadNode => read_node(&plots, batches),
-        Kind::Quiet => question(abi::quiet, plain::quiet, &plots, batches),
-        Kind::Groups => question(abi::groups, plain::groups, &plots, batches),
-        Kind::GroupOf => group_of(&plots, batches),
+        Kind::Quiet => look(abi::quiet, plain::quiet, |a| a.number, &plots, batches),
+        Kind::Groups => look(abi::groups, plain::groups, |a| a.number, &plots, batches),
+        // of the last station
+        Kind::GroupOf => look(
+            |n, nodes, channels| abi::group_of(n, n, nodes, channels),
+            |n, nodes, channels| plain::group_of(n, n, nodes, channels),
+            |a| a.number,
+            &plots,
+            batches,
+        ),
     }
 }
 
@@ -246,24 +253,6 @@ fn receipt(plots: &[Tables], batches: usize) -> Samples {
     samples
 }
 
-/// A check alone.
-fn check(plots: &[Tables], batches: usize) -> Samples {
-    let ask = |f: fn(u32, &[u32], &[u32]) -> abi::Checked| {
-        for tables in plots {
-            let (nodes, channels) = (black_box(&tables.nodes), black_box(&tables.channels));
-            assert_eq!(f(black_box(tables.n), nodes, channels).number, 0);
-        }
-    };
-    sides(
-        batches,
-        plots.len(),
-        1,
-        || ask(abi::check),
-        || ask(plain::check),
-        pass(plots),
-    )
-}
-
 /// Times a save.
 fn save(plots: &[Tables], batches: usize) -> Samples {
     let room = abi::image_len(plots[0].n);
@@ -348,12 +337,18 @@ fn read_node(plots: &[Tables], batches: usize) -> Samples {
     samples
 }
 
-/// A question that answers one value.
-fn question(ours: Question, theirs: Question, plots: &[Tables], batches: usize) -> Samples {
-    let ask = |f: Question| {
+/// A look at whole tables, a check or a question, and how its answer says its number.
+fn look<A>(
+    ours: Look<A>,
+    theirs: Look<A>,
+    number: fn(A) -> u32,
+    plots: &[Tables],
+    batches: usize,
+) -> Samples {
+    let ask = |f: Look<A>| {
         for tables in plots {
             let (nodes, channels) = (black_box(&tables.nodes), black_box(&tables.channels));
-            assert_eq!(f(black_box(tables.n), nodes, channels).number, 0);
+            assert_eq!(number(f(black_box(tables.n), nodes, channels)), 0);
         }
     };
     sides(
@@ -362,25 +357,6 @@ fn question(ours: Question, theirs: Question, plots: &[Tables], batches: usize) 
         1,
         || ask(ours),
         || ask(theirs),
-        pass(plots),
-    )
-}
-
-/// The group of the last station.
-fn group_of(plots: &[Tables], batches: usize) -> Samples {
-    let ask = |f: fn(u32, u32, &[u32], &[u32]) -> abi::Group| {
-        for tables in plots {
-            let (nodes, channels) = (black_box(&tables.nodes), black_box(&tables.channels));
-            let n = black_box(tables.n);
-            assert_eq!(f(n, n, nodes, channels).number, 0);
-        }
-    };
-    sides(
-        batches,
-        plots.len(),
-        1,
-        || ask(abi::group_of),
-        || ask(plain::group_of),
         pass(plots),
     )
 }

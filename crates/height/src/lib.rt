@@ -9,7 +9,7 @@ pub mod order;
 pub mod words;
 
 // The clock's end.
-const LAST_TIME: u32 = 4294967295;
+pub const LAST_TIME: u32 = 4294967295;
 
 // The range of a depth.
 pub const LEAST_DELTA: i32 = -32768;

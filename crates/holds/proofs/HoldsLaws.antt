@@ -12,7 +12,7 @@ use lib.Pow.{pow-mono, shl-exact}
 use lib.Signed.{leZ}
 use borrow.Author.Tests.{ltb-true, le-leb, lt-leb}
 use Rattle.basics.specs.Functions.{every}
-use Rattle.basics.proofs.Tests.{and-left, and-right, equal?}
+use Rattle.basics.proofs.Tests.{clash, Choice, yes!, no!, choice, and-left, and-right, and-both, equal?}
 use Rattle.height.specs.Clock.{lastTime}
 use Rattle.height.specs.inner.Stored.{Negated}
 use Rattle.height.specs.Words.{heightAt}
@@ -23,6 +23,7 @@ use Rattle.nodeset.specs.NodeSet.{member, within, apart}
 use Rattle.nodeset.proofs.Members.{none-above}
 use Rattle.protocol.specs.Holds.{levelHolds, deltaHolds, leaderPairHolds, heightHolds, notInBoth, setsHold}
 use Rattle.protocol.specs.Times.{timesWithin}
+use Rattle.protocol.proofs.Ranges.{negated-le, height-fits}
 
 -- ---- a height
 
@@ -41,18 +42,20 @@ unfolding levelTest
 some-test n t zero r = rw (eqb·suc-zero t) (sym (and-false (leb 0 n && leb r 1)))
 some-test n t (suc o) r = rw (eqb·suc-zero t, eqb·suc-zero o, le-leb 1 (suc o) (omega arith)) (sym (and-true (leb (suc o) n && leb r 1)))
 
--- without a search, originator and bit are 0
-pub level-none : (n : ℕ) (l : ReferenceLevel) → l .tau .0 ≡ 0 → (eqb (l .oid) 0 && eqb (l .r) 0) ≡ levelHolds n l
+-- a level of a search time at most c: without a search, originator and bit are 0
+pub level-none : (n c : ℕ) (l : ReferenceLevel) → l .tau .0 ≡ 0 → (eqb (l .oid) 0 && eqb (l .r) 0) ≡ (levelHolds n l && leb (l .tau .0) c)
 unfolding levelHolds levelTest
-level-none n l e = rw e (none-test n (l .oid) (l .r))
+level-none n c l e = rw (e, le-leb 0 c (omega arith)) (none-test n (l .oid) (l .r) ∙ sym (and-true (levelTest n 0 (l .oid) (l .r))))
 
 -- with a search there is an originator
-pub level-some : (n : ℕ) (l : ReferenceLevel) → l .tau .0 ≤ lastTime → 0 < l .tau .0
-    → (leb 1 (l .oid) && leb (l .oid) n && leb (l .r) 1) ≡ levelHolds n l
+pub level-some : (n c : ℕ) (l : ReferenceLevel) → l .tau .0 ≤ lastTime → 0 < l .tau .0
+    → (leb 1 (l .oid) && leb (l .oid) n && leb (l .r) 1 && leb (l .tau .0) c) ≡ (levelHolds n l && leb (l .tau .0) c)
 unfolding levelHolds levelTest
-level-some n l h p =
+level-some n c l h p =
     let e : l .tau .0 ≡ suc (l .tau .0 - 1) = omega arith in
-    rw (le-leb (l .tau .0) lastTime h) (some-test n (l .tau .0 - 1) (l .oid) (l .r) ∙ ap (λ (t : ℕ). levelTest n t (l .oid) (l .r)) (sym e))
+    let q : (leb 1 (l .oid) && leb (l .oid) n && leb (l .r) 1) ≡ levelTest n (l .tau .0) (l .oid) (l .r) =
+    some-test n (l .tau .0 - 1) (l .oid) (l .r) ∙ ap (λ (t : ℕ). levelTest n t (l .oid) (l .r)) (sym e) in
+    rw (le-leb (l .tau .0) lastTime h, q)
 
 pub negated-range : (z : ℤ) → Negated z → (leZ (negℤ (pos lastTime)) z && leZ z (pos 0)) ≡ true
 unfolding Negated
@@ -75,28 +78,6 @@ module _ (n k : ℕ) (h : Height) (negated : Negated (h .pair .nlts .0)) where
         and-assoc (levelHolds n (h .level) && deltaHolds (h .delta)) (leb 1 (h .pair .lid)) (leb (h .pair .lid) n),
       )
 
--- the words of a height from `at` on, test by test
-module _ (n k : ℕ) (ws : List ℕ) (at : ℕ) (word : getD ws (at + 4) 0 ≤ lastTime) where
-  abbrev H : Height
-  H = heightAt ws at
-
-  whole : (levelHolds n (H .level) && deltaHolds (H .delta) && leb 1 (H .pair .lid) && leb (H .pair .lid) n && eqb (H .id) k) ≡ heightHolds n k H
-  unfolding heightAt
-  whole = height-test n k H (negated-word (getD ws (at + 4) 0) word)
-
-  pub other-node : eqb (H .id) k ≡ false → false ≡ heightHolds n k H
-  other-node e = sym (and-false (levelHolds n (H .level) && deltaHolds (H .delta) && leb 1 (H .pair .lid) && leb (H .pair .lid) n)) ∙ (rw e at whole)
-
-  pub bad-level : levelHolds n (H .level) ≡ false → false ≡ heightHolds n k H
-  bad-level l = rw l at whole
-
-  pub bad-delta : levelHolds n (H .level) ≡ true → deltaHolds (H .delta) ≡ false → false ≡ heightHolds n k H
-  bad-delta l d = rw (l, d) at whole
-
-  pub by-leader : eqb (H .id) k ≡ true → levelHolds n (H .level) ≡ true → deltaHolds (H .delta) ≡ true
-      → (leb 1 (H .pair .lid) && leb (H .pair .lid) n) ≡ heightHolds n k H
-  by-leader e l d = sym (and-true (leb 1 (H .pair .lid) && leb (H .pair .lid) n)) ∙ (rw (e, l, d) at whole)
-
 -- ---- its times
 
 -- an election time without its sign
@@ -114,6 +95,90 @@ module _ (c : ℕ) (ws : List ℕ) (at : ℕ) where
   times-test word =
       ap (λ (b : Bool). leb (getD ws at 0) c && b)
       (ap (λ (w : ℕ). leb w c) (sym (natAbs-neg (getD ws (at + 4) 0))) ∙ elected-within c (negℤ (pos (getD ws (at + 4) 0))) (negated-word (getD ws (at + 4) 0) word))
+
+-- the times of a height that holds are at most the last time
+pub any-times : (n k : ℕ) (h : Height) → (heightHolds n k h && timesWithin lastTime h) ≡ heightHolds n k h
+unfolding timesWithin
+any-times n k h = go (choice (heightHolds n k h))
+  where
+    go : Choice (heightHolds n k h) → (heightHolds n k h && timesWithin lastTime h) ≡ heightHolds n k h
+    go (no! e) = rw e
+    go (yes! e) =
+        let f = height-fits n k h e in
+        rw (e, f .pair .nlts-is) (and-both (le-leb (h .level .tau .0) lastTime (f .level .tau-le)) (negated-le lastTime (f .pair .election) (f .pair .election-le)))
+
+-- ---- a height and its times, from `at` on, test by test
+
+module _ (n k c : ℕ) (ws : List ℕ) (at : ℕ) (word : getD ws (at + 4) 0 ≤ lastTime) where
+  abbrev H : Height
+  H = heightAt ws at
+
+  abbrev Passes : Bool
+  Passes = heightHolds n k H && timesWithin c H
+
+  -- the tests: level, depth, leader (two) and station; search time and election time
+  abbrev L : Bool
+  L = levelHolds n (H .level)
+
+  abbrev D : Bool
+  D = deltaHolds (H .delta)
+
+  abbrev A : Bool
+  A = leb 1 (H .pair .lid)
+
+  abbrev B : Bool
+  B = leb (H .pair .lid) n
+
+  abbrev S : Bool
+  S = eqb (H .id) k
+
+  abbrev T : Bool
+  T = leb (getD ws at 0) c
+
+  abbrev E : Bool
+  E = leb (getD ws (at + 4) 0) c
+
+  whole : (L && D && A && B && S && (T && E)) ≡ Passes
+  unfolding heightAt
+  whole = rw (times-test c ws at word, height-test n k H (negated-word (getD ws (at + 4) 0) word))
+
+  pub other-node : S ≡ false → false ≡ Passes
+  other-node q = go (L && D && A && B) ∙ (rw q at whole)
+    where
+      go : (x : Bool) → false ≡ (x && false && (T && E))
+      go true = refl
+      go false = refl
+
+  pub bad-level : (L && T) ≡ false → false ≡ Passes
+  bad-level q = go L T q ∙ whole
+    where
+      go : (l t : Bool) → (l && t) ≡ false → false ≡ (l && D && A && B && S && (t && E))
+      go true true q = clash refl q
+      go true false q = sym (and-false (D && A && B && S))
+      go false t q = refl
+
+  pub bad-delta : D ≡ false → false ≡ Passes
+  bad-delta q = go L ∙ (rw q at whole)
+    where
+      go : (l : Bool) → false ≡ (l && false && A && B && S && (T && E))
+      go true = refl
+      go false = refl
+
+  pub late-election : E ≡ false → false ≡ Passes
+  late-election q = go (L && D && A && B && S) T ∙ (rw q at whole)
+    where
+      go : (x t : Bool) → false ≡ (x && (t && false))
+      go true true = refl
+      go true false = refl
+      go false t = refl
+
+  pub by-leader : S ≡ true → (L && T) ≡ true → D ≡ true → E ≡ true → (A && B) ≡ Passes
+  by-leader s l d e = go A B ∙ (rw (and-left L T l, d, s, and-right L T l, e) at whole)
+    where
+      go : (a b : Bool) → (a && b) ≡ (a && b && true && true)
+      go true true = refl
+      go true false = refl
+      go false b = refl
 
 -- ---- two sets
 

@@ -3,6 +3,7 @@
 ghost use mathlib.Core.Path.{_≡_};
 ghost use mathlib.Core.Bool.{_&&_};
 ghost use Prim.Native.Nat.{_+_, _≤_};
+ghost use lib.Dec.{leb};
 ghost use lib.ListN.{length};
 ghost use Rattle.height.specs.Words.{heightSize, heightAt};
 ghost use Rattle.nodeset.specs.NodeSet.{member, within};
@@ -12,9 +13,9 @@ ghost use Rattle.protocol.specs.Times.{timesWithin};
 use height::ReferenceLevel;
 use height::Time;
 
-// A reference level.
-fn level_holds(n: u32, l: ReferenceLevel) -> bool
-    ensures { λ r. ⌜ r ≡ levelHolds n l ⌝ }
+// A reference level, of a search time at most c.
+fn level_within(n: u32, c: u32, l: ReferenceLevel) -> bool
+    ensures { λ r. ⌜ r ≡ (levelHolds n l && leb (l .tau .0) c) ⌝ }
 {
     let tau = l.tau.0;
     let oid = l.oid;
@@ -22,7 +23,7 @@ fn level_holds(n: u32, l: ReferenceLevel) -> bool
     if tau == 0 {
         return (oid == 0) & (r == 0);
     }
-    (1 <= oid) & (oid <= n) & (r <= 1)
+    (1 <= oid) & (oid <= n) & (r <= 1) & (tau <= c)
 }
 
 // A depth.
@@ -32,10 +33,10 @@ fn delta_holds(d: i32) -> bool
     (height::LEAST_DELTA <= d) & (d <= height::GREATEST_DELTA)
 }
 
-// A height of node k, whose words stand from `at`. Each test reads its own words, and the first that fails ends it.
-pub fn height_holds(n: u32, k: u32, words: &[u32], at: usize) -> bool
+// A height of node k, whose words stand from `at`, of times at most c. Each test reads its own words, and the first that fails ends it.
+pub fn height_within(n: u32, k: u32, c: u32, words: &[u32], at: usize) -> bool
     requires { ⌜ at + heightSize ≤ length (now words) ⌝ }
-    ensures { λ r. ⌜ r ≡ heightHolds n k (heightAt (now (words .entry)) at) ⌝ }
+    ensures { λ r. ⌜ r ≡ (heightHolds n k (heightAt (now (words .entry)) at) && timesWithin c (heightAt (now (words .entry)) at)) ⌝ }
 {
     if words[at + 6] != k {
         return false;
@@ -45,14 +46,25 @@ pub fn height_holds(n: u32, k: u32, words: &[u32], at: usize) -> bool
         oid: words[at + 1],
         r: words[at + 2],
     };
-    if !level_holds(n, level) {
+    if !level_within(n, c, level) {
         return false;
     }
     if !delta_holds(height::words::delta_of(words[at + 3])) {
         return false;
     }
+    if c < words[at + 4] {
+        return false;
+    }
     let lid = words[at + 5];
     (1 <= lid) & (lid <= n)
+}
+
+// A height of node k, of any times.
+pub fn height_holds(n: u32, k: u32, words: &[u32], at: usize) -> bool
+    requires { ⌜ at + heightSize ≤ length (now words) ⌝ }
+    ensures { λ r. ⌜ r ≡ heightHolds n k (heightAt (now (words .entry)) at) ⌝ }
+{
+    height_within(n, k, height::LAST_TIME, words, at)
 }
 
 // The search time and the election time of the height whose words stand from `at`, neither above c.

@@ -3,15 +3,14 @@
 use Prim.Native.Nat.{ℕ, zero, suc, _+_, _-_, _*_, _≤_}
 use native.Mathlib.Omega.{arith}
 use mathlib.Core.Bool.{Bool, true, false, not, cond, _&&_, _||_}
-use mathlib.Core.List.{List, [], _∷_, _++_, map}
+use mathlib.Core.List.{List, [], _∷_, map}
 use mathlib.Core.Logic.{_⊎_, inl, inr}
 use mathlib.Core.Path.{_≡_, refl, sym, ap, _∙_}
 use lib.Dec.{eqb, leb}
-use lib.ListN.{length, take, drop, replicate, length-map}
+use lib.ListN.{length, take, drop, length-map}
 use lib.Seq.{drop-append-add}
 use borrow.Author.Tests.{eq-eqb, ne-eqb, leb-true}
 use Rattle.basics.specs.Functions.{every, all}
-use Rattle.basics.proofs.AllOf.{more}
 use Rattle.basics.proofs.FunctionsLaws.{every-at, every-all, every-pair-at}
 use Rattle.basics.proofs.Tests.{clash, Choice, yes!, no!, choice, equal?, and-left, and-right, and-both}
 use Rattle.height.specs.Height.{zeroHeight}

@@ -1,8 +1,8 @@
 -- What the code finds of a pair: a node in a word, the own height, a view, the messages of a cell one by one, the zero words after them.
 use Prim.Native.Nat.{ℕ, zero, suc, _+_, _-_, _*_, _/_, _%_, _^_, _≤_, _<_}
 use native.Mathlib.Omega.{arith}
-use mathlib.Core.Bool.{Bool, true, false, _&&_, _||_, and-true, and-false, and-assoc}
-use mathlib.Core.List.{List, []}
+use mathlib.Core.Bool.{Bool, true, false, not, _&&_, _||_, and-true, and-false, or-true, or-false}
+use mathlib.Core.List.{List, [], _∷_}
 use mathlib.Core.Path.{_≡_, refl, sym, ap, _∙_}
 use lib.Dec.{eqb}
 use lib.IntN.{pos, negℤ}
@@ -11,7 +11,7 @@ use lib.Seq.{getD-take, getD-drop}
 use lib.Signed.{leZ}
 use borrow.Author.Tests.{le-leb, lt-leb, eq-eqb, ne-eqb}
 use Rattle.basics.specs.Functions.{all}
-use Rattle.basics.proofs.Tests.{clash, and-left, and-right}
+use Rattle.basics.proofs.Tests.{clash, Choice, yes!, no!, choice, and-left, and-right}
 use Rattle.height.specs.Clock.{lastTime}
 use Rattle.height.specs.Height.{zeroHeight}
 use Rattle.height.specs.Words.{heightAt, deltaOf}
@@ -24,10 +24,11 @@ use Rattle.tables.specs.Row.{clockIn, neighborsIn, formingIn, heightIn}
 use Rattle.tables.specs.Rows.{part}
 use Rattle.tables.proofs.WordRuns.{zero-at}
 use Rattle.pairs.specs.Pair.{ownSound, viewSound, channelSound, pairSound, timelyIn}
-use Rattle.pairs.specs.inner.Findings.{finding, joined, isFaulty, isTimely}
+use Rattle.pairs.specs.inner.Findings.{finding, passes, joined, isFaulty, isTimely, keptOr}
 use Rattle.pairs.specs.inner.ReadCell.{ReadCell}
 use Rattle.pairs.specs.declared.Finding.the-variants.{Good, Untimely, Faulty}
 use Rattle.pairs.specs.declared.Finding.{Finding}
+use Rattle.pairs.specs.declared.Late.{Late}
 
 -- ---- a node in a word
 
@@ -71,9 +72,6 @@ good e t = rw (e, t)
 pub untimely : {sound timely : Bool} → sound ≡ true → timely ≡ false → Untimely ≡ finding sound timely
 untimely e t = rw (e, t)
 
-pub found-by : {f : Finding} {s t x y : Bool} → f ≡ finding s t → s ≡ x → t ≡ y → f ≡ finding x y
-found-by q a b = q ∙ rw (a, b)
-
 -- both findings of a pair
 pub both-found : (s t x y : Bool) → joined (finding s t) (finding x y) ≡ finding (s && x) (t && y)
 both-found true true x y = refl
@@ -81,6 +79,14 @@ both-found true false true true = refl
 both-found true false true false = refl
 both-found true false false y = refl
 both-found false t x y = refl
+
+-- which pair is kept
+module _ (kept : Late) (timely : Bool) (u v : ℕ) where
+  pub kept-first : (timely || not (eqb (kept .u) 0)) ≡ true → kept ≡ keptOr kept timely u v
+  kept-first e = rw e
+
+  pub kept-second : (timely || not (eqb (kept .u) 0)) ≡ false → record { u = u; v = v } ≡ keptOr kept timely u v
+  kept-second e = rw e
 
 -- what is found tells both tests
 pub found-faulty : {f : Finding} (s t : Bool) → f ≡ finding s t → isFaulty f ≡ true → s ≡ false
@@ -130,16 +136,16 @@ module _ (n v : ℕ) (row : List ℕ) where
   unfolding viewSound
   view-linked m = rw m
 
-  module _ (m : member (neighborsIn row) v ≡ false) where
-    pub view-absent : 1 ≤ v → allZero (part (3 + (v - 1) * 7) 7 row) ≡ true
-        → Good ≡ finding (viewSound n v row) (timesWithin (clockIn row) (heightIn row v))
-    unfolding viewSound timesWithin
-    view-absent low z = rw (m, z, zero-view row v low z, le-leb 0 (clockIn row) (omega arith), none-elected (clockIn row))
-
-    pub view-faulty : allZero (part (3 + (v - 1) * 7) 7 row) ≡ false
-        → Faulty ≡ finding (viewSound n v row) (timesWithin (clockIn row) (heightIn row v))
-    unfolding viewSound
-    view-faulty z = rw (m, z)
+  pub view-absent : member (neighborsIn row) v ≡ false → 1 ≤ v
+      → finding (allZero (part (3 + (v - 1) * 7) 7 row)) true ≡ finding (viewSound n v row) (timesWithin (clockIn row) (heightIn row v))
+  unfolding viewSound timesWithin
+  view-absent m low = rw m (go (choice (allZero (part (3 + (v - 1) * 7) 7 row))))
+    where
+      go : Choice (allZero (part (3 + (v - 1) * 7) 7 row))
+          → finding (allZero (part (3 + (v - 1) * 7) 7 row)) true
+          ≡ finding (allZero (part (3 + (v - 1) * 7) 7 row)) (timesWithin (clockIn row) (heightIn row v))
+      go (yes! z) = rw (zero-view row v low z, le-leb 0 (clockIn row) (omega arith), none-elected (clockIn row))
+      go (no! z) = rw z
 
 -- ---- the messages of a cell
 
@@ -148,20 +154,51 @@ pub holds-by-height : (n u : ℕ) (cell : List ℕ) (i : ℕ) → getD cell (i +
 unfolding messageHolds messageAt
 holds-by-height n u cell i stamped = rw (le-leb (getD cell (i + 7) 0) lastTime stamped) (and-true (heightHolds n u (heightAt cell i)))
 
--- with message k next, from message `from` on: what is to be answered is what the messages from k on are
-pub record MessagesFrom (test : Message → Bool) (cell : List ℕ) (size from k : ℕ) : Type 0 where
-  pub start : from ≤ k
+-- both tests of a message: the stamp beside the clock, then the height and its times beside the stamp
+module _ (n u c : ℕ) (cell : List ℕ) (i : ℕ) where
+  pub stamp-above : c < getD cell (i + 7) 0 → false ≡ passes n u c (messageAt cell i)
+  unfolding passes messageTimely messageAt
+  stamp-above l = rw (lt-leb (getD cell (i + 7) 0) c l) (sym (and-false (messageHolds n u (messageAt cell i))))
+
+  pub passes-by-height : getD cell (i + 7) 0 ≤ c → getD cell (i + 7) 0 ≤ lastTime
+      → (heightHolds n u (heightAt cell i) && timesWithin (getD cell (i + 7) 0) (heightAt cell i)) ≡ passes n u c (messageAt cell i)
+  unfolding passes messageTimely messageAt
+  passes-by-height l stamped = rw (le-leb (getD cell (i + 7) 0) c l, holds-by-height n u cell i stamped)
+
+-- both tests of a list of messages
+pub all-passes : (n u c : ℕ) (ms : List Message) → all (passes n u c) ms ≡ (all (messageHolds n u) ms && all (messageTimely c) ms)
+unfolding all passes
+all-passes n u c [] = refl
+all-passes n u c (m ∷ ms) = rw (all-passes n u c ms) (go (messageHolds n u m) (messageTimely c m) (all (messageHolds n u) ms) (all (messageTimely c) ms))
+  where
+    go : (a b x y : Bool) → (a && b && (x && y)) ≡ (a && x && (b && y))
+    go true true x y = refl
+    go true false x y = sym (and-false x)
+    go false b x y = refl
+
+-- what they show of the rules and of the times
+module _ (n u c : ℕ) (ms : List Message) where
+  pub messages-good : all (passes n u c) ms ≡ true → Good ≡ finding (all (messageHolds n u) ms) (all (messageTimely c) ms)
+  messages-good e =
+      let q = sym (all-passes n u c ms) ∙ e in
+      good (and-left (all (messageHolds n u) ms) (all (messageTimely c) ms) q) (and-right (all (messageHolds n u) ms) (all (messageTimely c) ms) q)
+
+  pub messages-untimely : all (passes n u c) ms ≡ false → all (messageHolds n u) ms ≡ true → Untimely ≡ finding (all (messageHolds n u) ms) (all (messageTimely c) ms)
+  messages-untimely e h = untimely h (rw h at (sym (all-passes n u c ms) ∙ e))
+
+-- with message k next: what is to be answered is what the messages from k on are
+pub record MessagesFrom (test : Message → Bool) (cell : List ℕ) (size k : ℕ) : Type 0 where
   pub inside : k ≤ size
-  pub same : all test (messagesAt (size - from) cell (1 + from * 8)) ≡ all test (messagesAt (size - k) cell (1 + k * 8))
+  pub same : all test (messagesAt size cell 1) ≡ all test (messagesAt (size - k) cell (1 + k * 8))
 
-module _ (test : Message → Bool) (cell : List ℕ) (size from : ℕ) where
+module _ (test : Message → Bool) (cell : List ℕ) (size : ℕ) where
   abbrev All : Bool
-  All = all test (messagesAt (size - from) cell (1 + from * 8))
+  All = all test (messagesAt size cell 1)
 
-  pub messages-start : from ≤ size → MessagesFrom test cell size from from
-  messages-start l = record { start = omega arith; inside = l; same = refl }
+  pub messages-start : MessagesFrom test cell size 0
+  messages-start = let e : size - 0 ≡ size = omega arith in record { inside = omega arith; same = rw e }
 
-  module _ (k : ℕ) (r : MessagesFrom test cell size from k) where
+  module _ (k : ℕ) (r : MessagesFrom test cell size k) where
     module _ (l : k < size) where
       next-is : all test (messagesAt (size - k) cell (1 + k * 8)) ≡ (test (messageAt cell (1 + k * 8)) && all test (messagesAt (size - (k + 1)) cell (1 + (k + 1) * 8)))
       unfolding all messagesAt
@@ -170,8 +207,8 @@ module _ (test : Message → Bool) (cell : List ℕ) (size from : ℕ) where
           let g : 1 + k * 8 + 8 ≡ 1 + (k + 1) * 8 = omega arith in
           rw (e, g)
 
-      pub messages-next : test (messageAt cell (1 + k * 8)) ≡ true → MessagesFrom test cell size from (k + 1)
-      messages-next h = record { start = omega (arith, r .start); inside = omega arith; same = r .same ∙ next-is ∙ rw h }
+      pub messages-next : test (messageAt cell (1 + k * 8)) ≡ true → MessagesFrom test cell size (k + 1)
+      messages-next h = record { inside = omega arith; same = r .same ∙ next-is ∙ rw h }
 
       pub messages-fail : test (messageAt cell (1 + k * 8)) ≡ false → All ≡ false
       messages-fail h = r .same ∙ next-is ∙ rw h
@@ -180,44 +217,58 @@ module _ (test : Message → Bool) (cell : List ℕ) (size from : ℕ) where
     unfolding all messagesAt
     messages-end l = let past : size - k ≡ 0 = omega arith in r .same ∙ rw past
 
--- all of them
-pub all-messages : (test : Message → Bool) (cell : List ℕ) (size : ℕ) → all test (messagesAt (size - 0) cell (1 + 0 * 8)) ≡ all test (messagesAt size cell 1)
-all-messages test cell size = let e : size - 0 ≡ size = omega arith in rw e
-
 -- ---- a channel
 
+-- the words after the messages of a cell that was read
+pub rest-of : (cell : List ℕ) → ReadCell cell → (k : ℕ) → k ≡ count cell → allZero (drop (1 + k * 8) cell) ≡ true
+rest-of cell read k e = rw e (read .rest)
+
+-- the words after a count of 0
+zero-first : (cell : List ℕ) → count cell ≡ 0 → allZero cell ≡ allZero (drop 1 cell)
+unfolding allZero
+zero-first [] e = refl
+zero-first (w ∷ ws) e = rw e
+
 module _ (n u v : ℕ) (row cell : List ℕ) (k : ℕ) (counted : k ≡ count cell) where
-  abbrev pub upTest : Bool
-  upTest = member (neighborsIn row) v || member (formingIn row) v || eqb k 0
+  abbrev Up : Bool
+  Up = member (neighborsIn row) v || member (formingIn row) v
 
   abbrev ChannelFinding : Finding
   ChannelFinding = finding (channelSound n u v row cell) (all (messageTimely (clockIn row)) (queue cell))
+
+  -- nothing waits
+  pub channel-empty : k ≡ 0 → finding (allZero cell) true ≡ ChannelFinding
+  unfolding channelSound queue messagesAt all
+  channel-empty e = rw (zero-first cell (sym counted ∙ e), ← counted, e, or-true Up)
+
+  pub channel-read-empty : ReadCell cell → k ≡ 0 → Good ≡ ChannelFinding
+  channel-read-empty read e =
+      good {timely = true} (zero-first cell (sym counted ∙ e) ∙ (rw e at (rest-of cell read k counted))) refl ∙ channel-empty e
 
   pub channel-over : 8 < k → Faulty ≡ ChannelFinding
   unfolding channelSound
   channel-over l = rw (← counted, lt-leb k 8 l)
 
-  pub channel-faulty : k ≤ 8 → (upTest && allZero (drop (1 + k * 8) cell)) ≡ false → Faulty ≡ ChannelFinding
-  unfolding channelSound
-  channel-faulty l e =
-      rw (← counted, le-leb k 8 l) (faulty (all (messageTimely (clockIn row)) (queue cell)) (go upTest (allZero (drop (1 + k * 8) cell)) (all (messageHolds n u) (queue cell)) e))
-    where
-      go : (a z m : Bool) → (a && z) ≡ false → (a && m && z) ≡ false
-      go true true m e = clash refl e
-      go true false m e = and-false m
-      go false z m e = refl
+  -- something waits
+  module _ (some : k ≡ 0 → ⊥) (few : k ≤ 8) where
+    pub channel-faulty : (Up && allZero (drop (1 + k * 8) cell)) ≡ false → Faulty ≡ ChannelFinding
+    unfolding channelSound
+    channel-faulty e =
+        rw (← counted, le-leb k 8 few, ne-eqb k 0 some, or-false Up)
+        (faulty (all (messageTimely (clockIn row)) (queue cell)) (go Up (allZero (drop (1 + k * 8) cell)) (all (messageHolds n u) (queue cell)) e))
+      where
+        go : (a z m : Bool) → (a && z) ≡ false → (a && m && z) ≡ false
+        go true true m e = clash refl e
+        go true false m e = and-false m
+        go false z m e = refl
 
-  pub channel-found : k ≤ 8 → (upTest && allZero (drop (1 + k * 8) cell)) ≡ true
-      → finding (all (messageHolds n u) (messagesAt k cell 1)) (all (messageTimely (clockIn row)) (messagesAt k cell 1)) ≡ ChannelFinding
-  unfolding channelSound queue
-  channel-found l e =
-      let up = and-left upTest (allZero (drop (1 + k * 8) cell)) e in
-      let rest = and-right upTest (allZero (drop (1 + k * 8) cell)) e in
-      rw (← counted, le-leb k 8 l, up, rest, and-true (all (messageHolds n u) (messagesAt k cell 1)))
-
--- the words after the messages of a cell that was read
-pub rest-of : (cell : List ℕ) → ReadCell cell → (k : ℕ) → k ≡ count cell → allZero (drop (1 + k * 8) cell) ≡ true
-rest-of cell read k e = rw e (read .rest)
+    pub channel-found : (Up && allZero (drop (1 + k * 8) cell)) ≡ true
+        → finding (all (messageHolds n u) (messagesAt k cell 1)) (all (messageTimely (clockIn row)) (messagesAt k cell 1)) ≡ ChannelFinding
+    unfolding channelSound queue
+    channel-found e =
+        let up = and-left Up (allZero (drop (1 + k * 8) cell)) e in
+        let rest = and-right Up (allZero (drop (1 + k * 8) cell)) e in
+        rw (← counted, le-leb k 8 few, up, rest, and-true (all (messageHolds n u) (messagesAt k cell 1)))
 
 -- ---- the pair
 
@@ -240,6 +291,6 @@ module _ (n u v : ℕ) (row cell : List ℕ) where
 
 -- ---- a part of a slice
 
--- `&xs[a..a + k]`
-pub slice-part : (a k : ℕ) (xs : List ℕ) → take (a + k - a) (drop a xs) ≡ part a k xs
-slice-part a k xs = let e : a + k - a ≡ k = omega arith in rw e
+-- `&xs[s..s + k]`, which starts at a
+pub slice-part : (s a k : ℕ) (xs : List ℕ) → s ≡ a → take (s + k - s) (drop s xs) ≡ part a k xs
+slice-part s a k xs start = let e : a + k - a ≡ k = omega arith in rw (start, e)

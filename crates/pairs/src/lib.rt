@@ -1,9 +1,8 @@
 // What the lent tables hold for a pair u, v: whether its words break a rule, and whether its times make sense, found in one look.
 // These are leaves: only our crates call them, with the bounds that `requires` states.
 ghost use mathlib.Core.Path.{_≡_};
-ghost use mathlib.Core.Bool.{false, _||_};
-ghost use Prim.Native.Nat.{_+_, _-_, _≤_};
-ghost use lib.Dec.{eqb};
+ghost use mathlib.Core.Bool.{true, _||_};
+ghost use Prim.Native.Nat.{_+_, _≤_};
 ghost use lib.ListN.{length};
 ghost use Rattle.basics.specs.Functions.{all};
 ghost use Rattle.height.specs.Words.{heightSize, heightAt};
@@ -11,11 +10,11 @@ ghost use Rattle.nodeset.specs.NodeSet.{member};
 ghost use Rattle.protocol.specs.Holds.{heightHolds, messageHolds};
 ghost use Rattle.protocol.specs.Network.{Node, capacity};
 ghost use Rattle.protocol.specs.Times.{timesWithin, messageTimely};
-ghost use Rattle.tables.specs.Cell.{slot, queue, messageAt, messagesAt};
+ghost use Rattle.tables.specs.Cell.{slot, queue, messageAt, messagesAt, allZero};
 ghost use Rattle.tables.specs.Row.{clockIn, neighborsIn, formingIn, heightIn};
 ghost use Rattle.tables.specs.Tables.{rowHead, width, messageSize, cellWidth};
 ghost use Rattle.pairs.specs.Pair.{ownSound, viewSound, channelSound, pairSound, timelyIn};
-ghost use Rattle.pairs.specs.inner.Findings.{finding, joined, isFaulty, isTimely, keptOr};
+ghost use Rattle.pairs.specs.inner.Findings.{finding, joined, isFaulty, isTimely, keptOr, passes};
 ghost use Rattle.pairs.specs.inner.ReadCell.{ReadCell};
 
 pub enum Finding {
@@ -98,6 +97,16 @@ fn height_at(n: u32, k: u32, clock: u32, words: &[u32], at: usize) -> Finding
     Finding::Untimely
 }
 
+// Words that nothing uses.
+fn unused(words: &[u32]) -> Finding
+    ensures { λ r. ⌜ r ≡ finding (allZero (now (words .entry))) true ⌝ }
+{
+    if tables::cells::all_zero(words) {
+        return Finding::Good;
+    }
+    Finding::Faulty
+}
+
 // The pair u, u.
 pub fn own(n: u32, u: u32, row: &[u32], cell: &[u32]) -> Finding
     requires { ⌜ (n ≤ 16) × Node n u × (length (now row) ≡ width n) × (length (now cell) ≡ cellWidth) ⌝ }
@@ -122,62 +131,75 @@ pub fn view(n: u32, v: u32, row: &[u32]) -> Finding
         return height_at(n, v, row[0], row, a);
     }
     let e = a + tables::HEIGHT_SIZE;
-    if tables::cells::all_zero(&row[a..e]) {
-        return Finding::Good;
-    }
-    Finding::Faulty
+    unused(&row[a..e])
 }
 
-// The message whose words stand from `at`, on a channel from a node whose clock this is.
-fn message_timely(clock: u32, cell: &[u32], at: usize) -> bool
+// The message whose words stand from `at`, on a channel from node u, whose clock this is.
+fn message_passes(n: u32, u: u32, clock: u32, cell: &[u32], at: usize) -> bool
     requires { ⌜ at + messageSize ≤ length (now cell) ⌝ }
-    ensures { λ r. ⌜ r ≡ messageTimely clock (messageAt (now (cell .entry)) at) ⌝ }
+    ensures { λ r. ⌜ r ≡ passes n u clock (messageAt (now (cell .entry)) at) ⌝ }
 {
     let stamp = cell[at + tables::HEIGHT_SIZE];
-    (stamp <= clock) & holds::times_within(stamp, cell, at)
+    if clock < stamp {
+        return false;
+    }
+    holds::height_within(n, u, stamp, cell, at)
 }
 
-// What is left of a cell's first `count` messages behind an untimely one: only the rules still count.
-fn rest(n: u32, u: u32, cell: &[u32], from: usize, count: usize) -> Finding
-    requires { ⌜ (from ≤ count) × (count ≤ capacity) × (length (now cell) ≡ cellWidth) ⌝ }
-    ensures { λ r. ⌜ r ≡ finding (all (messageHolds n u) (messagesAt (count - from) (now (cell .entry)) (slot from))) false ⌝ }
+// The first `count` messages of a cell pass both tests. The loop goes to the fixed end, so that the compiler writes out its turns.
+fn all_pass(n: u32, u: u32, clock: u32, cell: &[u32], count: usize) -> bool
+    requires { ⌜ (count ≤ capacity) × (length (now cell) ≡ cellWidth) ⌝ }
+    ensures { λ r. ⌜ r ≡ all (passes n u clock) (messagesAt count (now (cell .entry)) (slot 0)) ⌝ }
 {
-    let mut k = from;
-    while k < count {
-        if !holds::height_holds(n, u, cell, tables::cells::slot_start(k)) {
-            return Finding::Faulty;
+    let mut k = 0;
+    while k < tables::CAPACITY {
+        if k == count {
+            return true;
+        }
+        if !message_passes(n, u, clock, cell, tables::cells::slot_start(k)) {
+            return false;
         }
         k += 1;
     }
-    Finding::Untimely
+    true
 }
 
-// The first `count` messages of a cell, of node u's, whose clock this is.
+// They break no rule.
+fn all_hold(n: u32, u: u32, cell: &[u32], count: usize) -> bool
+    requires { ⌜ (count ≤ capacity) × (length (now cell) ≡ cellWidth) ⌝ }
+    ensures { λ r. ⌜ r ≡ all (messageHolds n u) (messagesAt count (now (cell .entry)) (slot 0)) ⌝ }
+{
+    let mut k = 0;
+    while k < count {
+        if !holds::height_holds(n, u, cell, tables::cells::slot_start(k)) {
+            return false;
+        }
+        k += 1;
+    }
+    true
+}
+
+// The first `count` messages of a cell, of node u's, whose clock this is. Only where one fails is it asked which test.
 fn messages(n: u32, u: u32, clock: u32, cell: &[u32], count: usize) -> Finding
     requires { ⌜ (count ≤ capacity) × (length (now cell) ≡ cellWidth) ⌝ }
     ensures { λ r. ⌜ r ≡ finding (all (messageHolds n u) (messagesAt count (now (cell .entry)) (slot 0)))
         (all (messageTimely clock) (messagesAt count (now (cell .entry)) (slot 0))) ⌝ }
 {
-    let mut k = 0;
-    while k < count {
-        let at = tables::cells::slot_start(k);
-        if !holds::height_holds(n, u, cell, at) {
-            return Finding::Faulty;
-        }
-        if !message_timely(clock, cell, at) {
-            return rest(n, u, cell, k + 1, count);
-        }
-        k += 1;
+    if all_pass(n, u, clock, cell, count) {
+        return Finding::Good;
     }
-    Finding::Good
+    if all_hold(n, u, cell, count) {
+        return Finding::Untimely;
+    }
+    Finding::Faulty
 }
 
-// v is in one of the sets of a row, or nothing waits.
-fn is_up_or_empty(row: &[u32], v: u32, waiting: u32) -> bool
+// v is in one of the sets of a row.
+fn is_up(row: &[u32], v: u32) -> bool
     requires { ⌜ (1 ≤ v) × (v ≤ 16) × (rowHead ≤ length (now row)) ⌝ }
-    ensures { λ r. ⌜ r ≡ (member (neighborsIn (now (row .entry))) v || member (formingIn (now (row .entry))) v || eqb waiting 0) ⌝ }
+    ensures { λ r. ⌜ r ≡ (member (neighborsIn (now (row .entry))) v || member (formingIn (now (row .entry))) v) ⌝ }
 {
-    is_member(row[1], v) | is_member(row[2], v) | (waiting == 0)
+    is_member(row[1], v) | is_member(row[2], v)
 }
 
 // Channel u to v, beside u's row.
@@ -186,14 +208,17 @@ pub fn channel(n: u32, u: u32, v: u32, row: &[u32], cell: &[u32]) -> Finding
     ensures { λ r. ⌜ r ≡ finding (channelSound n u v (now (row .entry)) (now (cell .entry)))
         (all (messageTimely (clockIn (now (row .entry)))) (queue (now (cell .entry)))) ⌝ }
 {
-    let waiting = tables::cells::waiting(cell);
-    let count = waiting as usize;
+    let count = tables::cells::waiting(cell) as usize;
+    if count == 0 {
+        return unused(cell);
+    }
     if tables::CAPACITY < count {
         return Finding::Faulty;
     }
-    let fits = is_up_or_empty(row, v, waiting);
-    if fits & tables::cells::is_unused_after(cell, count) {
-        return messages(n, u, row[0], cell, count);
+    let found = messages(n, u, row[0], cell, count);
+    let up = is_up(row, v);
+    if up & tables::cells::is_unused_after(cell, count) {
+        return found;
     }
     Finding::Faulty
 }
@@ -204,9 +229,12 @@ fn read_channel(n: u32, u: u32, v: u32, row: &[u32], cell: &[u32]) -> Finding
     ensures { λ r. ⌜ r ≡ finding (channelSound n u v (now (row .entry)) (now (cell .entry)))
         (all (messageTimely (clockIn (now (row .entry)))) (queue (now (cell .entry)))) ⌝ }
 {
-    let waiting = tables::cells::waiting(cell);
-    if is_up_or_empty(row, v, waiting) {
-        return messages(n, u, row[0], cell, waiting as usize);
+    let count = tables::cells::waiting(cell) as usize;
+    if count == 0 {
+        return Finding::Good;
+    }
+    if is_up(row, v) {
+        return messages(n, u, row[0], cell, count);
     }
     Finding::Faulty
 }

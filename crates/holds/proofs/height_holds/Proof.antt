@@ -1,64 +1,13 @@
--- `holds::height_holds` meets its contract, test by test: a negated time is within its range already.
-use Prim.Native.Nat.{_+_}
-use native.Mathlib.Omega.{arith}
-use mathlib.Core.Bool.{true, false}
-use mathlib.Core.Path.{_≡_, sym, ap, _∙_}
-use mir.Facts.{toZ-ofZ}
-use mir.Syntax.{w32}
-use mir.Val.{SFits}
+-- `holds::height_holds` meets its contract: no time is above the last one.
+use mathlib.Core.Path.{_∙_}
 use borrow.Author.Needs.{needs}
-use borrow.Author.Tests.{eq-eqb, ne-eqb, not-true, not-false}
 use Rattle.height.specs.Words.{heightAt}
-use Rattle.protocol.specs.Holds.{levelHolds, deltaHolds}
-use Rattle.holds.proofs.HoldsLaws.{other-node, bad-level, bad-delta, by-leader}
+use Rattle.holds.proofs.HoldsLaws.{any-times}
 use Rattle.holds.proofs.height_holds.Statement.{statement}
 use Rattle.holds.proofs.height_holds.Tie as tie
 
 returns : tie.Need-returns
-unfolding heightAt
-returns c =
-    let s = c .before .before .before in
-    let a = s .args in
-    other-node (a .n) (a .k) (a .words .now) (a .at) (omega (arith, c .before .before .shared-slice-known .given (a .at + 4))) (ne-eqb _ _ (c .if1 .taken))
-
-returns-2 : tie.Need-returns-2
-unfolding heightAt
-returns-2 c =
-    let k = c .before .before .before .before .before .before .before in
-    let a = k .before .args in
-    bad-level (a .n) (a .k) (a .words .now) (a .at) (omega (arith, k .shared-slice-known .given (a .at + 4)))
-    (sym (c .before .level-holds .ensures) ∙ not-true _ (c .if2 .taken))
-
-returns-3 : tie.Need-returns-3
-unfolding heightAt
-returns-3 c =
-    let k = c .before .before .before .before .before .before .before .before .before .before .before in
-    let a = k .before .args in
-    let l = c .before .before .before .before .before in
-    let d = c .before .before .delta-of in
-    let f : SFits w32 (d .result) = search needs in
-    let delta : deltaHolds (heightAt (a .words .now) (a .at) .delta) ≡ false =
-    ap deltaHolds (sym (d .ensures)) ∙ sym (rw (toZ-ofZ f) at (c .before .delta-holds .ensures)) ∙ not-true _ (c .if3 .taken) in
-    bad-delta (a .n) (a .k) (a .words .now) (a .at) (omega (arith, k .shared-slice-known .given (a .at + 4)))
-    (sym (l .level-holds .ensures) ∙ not-false _ (c .before .before .before .before .if2 .left)) delta
-
-returns-4 : tie.Need-returns-4
-unfolding heightAt
-returns-4 c =
-    let k = c .before .before .before .before .before .before .before .before .before .before .before .before in
-    let a = k .before .args in
-    let l = c .before .before .before .before .before .before in
-    let d = c .before .before .before .delta-of in
-    let f : SFits w32 (d .result) = search needs in
-    let delta : deltaHolds (heightAt (a .words .now) (a .at) .delta) ≡ true =
-    ap deltaHolds (sym (d .ensures)) ∙ sym (rw (toZ-ofZ f) at (c .before .before .delta-holds .ensures)) ∙ not-false _ (c .before .if3 .left) in
-    by-leader (a .n) (a .k) (a .words .now) (a .at) (omega (arith, k .shared-slice-known .given (a .at + 4)))
-    (eq-eqb _ _ (l .before .before .before .before .if1 .left)) (sym (l .level-holds .ensures) ∙ not-false _ (c .before .before .before .before .before .if2 .left)) delta
+returns c = let a = c .before .before .args in c .height-within .ensures ∙ any-times (a .n) (a .k) (heightAt (a .words .now) (a .at))
 
 pub height-holds-spec : {M : Type 1} → statement M
-height-holds-spec =
-    tie.close
-    (tie.spec (λ c. search needs) (λ c. search needs) (λ c. search needs) returns (λ c. search needs) (λ c. search needs) (λ c. search needs)
-    (λ c. search needs) (λ c. search needs) (λ c. search needs) (λ c. search needs) (λ c. search needs) (λ c κs. search needs) returns-2 (λ c. search needs)
-    (λ c. search needs) (λ c. search needs) (λ c κs. search needs) (λ c κs. search needs) returns-3 (λ c. search needs) (λ c. search needs) (λ c. search needs)
-    returns-4)
+height-holds-spec = tie.close (tie.spec (λ c κs. search needs) returns)

@@ -1,6 +1,5 @@
 -- `lent::is_sized` meets its contract: with n at most 16 the products fit.
 use native.Mathlib.Omega.{arith}
-use borrow.Author.Needs.{needs}
 use borrow.Author.Tests.{le-leb, lt-leb}
 use Rattle.tables.specs.Tables.{sized}
 use Rattle.tables.proofs.RowsLaws.{product-le}

@@ -1,6 +1,5 @@
 -- `pairs::is_member` meets its contract: node v is bit v - 1, and the bits above it do not count.
 use native.Mathlib.Omega.{arith}
-use borrow.Author.Needs.{needs}
 use Rattle.pairs.proofs.PairLaws.{bit-member}
 use Rattle.pairs.proofs.is_member.Statement.{statement}
 use Rattle.pairs.proofs.is_member.Tie as tie

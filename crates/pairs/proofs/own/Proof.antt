@@ -1,5 +1,5 @@
 -- `pairs::own` meets its contract: the sets and the unused cell, then the own height.
-use mathlib.Core.Path.{sym, _∙_}
+use mathlib.Core.Path.{_∙_}
 use borrow.Author.Needs.{needs}
 use Rattle.tables.proofs.RowsLaws.{height-from-start}
 use Rattle.pairs.proofs.PairLaws.{own-faulty, own-found}

@@ -1,8 +1,5 @@
 -- `lent::search::pair` meets its contract, by whether u is v: the parts that are lent are the row of u and the cell of u to v.
-use mathlib.Core.Path.{_≡_, ap₂, _∙_}
 use borrow.Author.Needs.{needs}
-use Rattle.pairs.specs.Pair.{pairSound, timelyIn}
-use Rattle.pairs.specs.inner.Findings.{finding}
 use Rattle.pairs.proofs.PairLaws.{pair-own, pair-other}
 use Rattle.lent.specs.Check.{pairAt, timelyAt}
 use Rattle.lent.proofs.search.pair.Statement.{statement}

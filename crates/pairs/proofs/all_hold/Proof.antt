@@ -1,23 +1,22 @@
--- `pairs::rest` meets its contract. The invariant: what is to be answered is what the messages from k on are. The measure is how many are left.
+-- `pairs::all_hold` meets its contract. The invariant: what is to be answered is what the messages from k on are. The measure is how many are left.
 use Prim.Native.Nat.{_+_, _-_, _*_}
 use native.Mathlib.Omega.{arith}
-use mathlib.Core.Bool.{false}
-use mathlib.Core.Path.{refl, sym, _∙_}
+use mathlib.Core.Path.{sym, _∙_}
 use borrow.Author.Needs.{needs}
 use borrow.Author.Tests.{not-true, not-false}
 use Rattle.protocol.specs.Holds.{messageHolds}
-use Rattle.pairs.proofs.PairLaws.{MessagesFrom, messages-start, messages-next, messages-fail, messages-end, holds-by-height, faulty, untimely}
-use Rattle.pairs.proofs.rest.Statement.{statement}
-use Rattle.pairs.proofs.rest.Tie as tie
+use Rattle.pairs.proofs.PairLaws.{MessagesFrom, messages-start, messages-next, messages-fail, messages-end, holds-by-height}
+use Rattle.pairs.proofs.all_hold.Statement.{statement}
+use Rattle.pairs.proofs.all_hold.Tie as tie
 
 abbrev Inv-loop : tie.InvT-loop
-Inv-loop n u cell from count k₀ k = MessagesFrom (messageHolds n u) cell count from k
+Inv-loop n u cell count k₀ k = MessagesFrom (messageHolds n u) cell count k
 
 abbrev μ-loop : tie.MeasureT-loop
-μ-loop n u cell from count k₀ k = count - k
+μ-loop n u cell count k₀ k = count - k
 
 loop-holds : tie.Need-loop-holds Inv-loop μ-loop
-loop-holds c = messages-start _ _ _ _ (c .before .pre .0)
+loop-holds c = messages-start _ _ _
 
 slot-start-requires : tie.Need-slot-start-requires Inv-loop μ-loop
 slot-start-requires c κs = search needs
@@ -31,8 +30,8 @@ returns c =
     let l = s .before .before .loop in
     let known = s .before .before .before .shared-slice-known in
     let a = s .before .before .before .before .args in
-    faulty false
-    (messages-fail _ _ _ _ (l .k) (l .inv) (s .before .loop-test .taken)
+    sym
+    (messages-fail _ _ _ (l .k) (l .inv) (s .before .loop-test .taken)
     (holds-by-height (a .n) (a .u) (a .cell .now) (1 + l .k * 8) (omega (arith, known .given (1 + l .k * 8 + 7)))
     ∙ (rw (s .slot-start .ensures) at (sym (c .before .height-holds .ensures) ∙ not-true _ (c .if1 .taken)))))
 
@@ -48,14 +47,14 @@ loop-again c =
     let l = s .before .before .loop in
     let known = s .before .before .before .shared-slice-known in
     let a = s .before .before .before .before .args in
-    messages-next _ _ _ _ (l .k) (l .inv) (s .before .loop-test .taken)
+    messages-next _ _ _ (l .k) (l .inv) (s .before .loop-test .taken)
     (holds-by-height (a .n) (a .u) (a .cell .now) (1 + l .k * 8) (omega (arith, known .given (1 + l .k * 8 + 7)))
     ∙ (rw (s .slot-start .ensures) at (sym (c .before .height-holds .ensures) ∙ not-false _ (c .if1 .left))))
 
 returns-2 : tie.Need-returns-2 Inv-loop μ-loop
-returns-2 c = untimely (messages-end _ _ _ _ _ (c .before .loop .inv) (c .loop-test .left)) refl
+returns-2 c = sym (messages-end _ _ _ _ (c .before .loop .inv) (c .loop-test .left))
 
-pub rest-spec : {M : Type 1} → statement M
-rest-spec =
+pub all-hold-spec : {M : Type 1} → statement M
+all-hold-spec =
     tie.close
     (tie.spec Inv-loop μ-loop loop-holds slot-start-requires height-holds-requires returns add-k loop-less loop-again returns-2)

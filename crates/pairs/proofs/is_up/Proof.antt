@@ -1,7 +1,7 @@
--- `pairs::is_up_or_empty` meets its contract: the two sets, and the count.
+-- `pairs::is_up` meets its contract: the two sets.
 use borrow.Author.Needs.{needs}
-use Rattle.pairs.proofs.is_up_or_empty.Statement.{statement}
-use Rattle.pairs.proofs.is_up_or_empty.Tie as tie
+use Rattle.pairs.proofs.is_up.Statement.{statement}
+use Rattle.pairs.proofs.is_up.Tie as tie
 
 shared-slice-read-is-member : tie.Need-shared-slice-read-is-member
 shared-slice-read-is-member c = search needs
@@ -18,7 +18,7 @@ is-member-requires-2 c κs = search needs
 returns : tie.Need-returns
 returns c = rw (c .before .before .is-member .ensures, c .is-member2 .ensures)
 
-pub is-up-or-empty-spec : {M : Type 1} → statement M
-is-up-or-empty-spec =
+pub is-up-spec : {M : Type 1} → statement M
+is-up-spec =
     tie.close
     (tie.spec shared-slice-read-is-member is-member-requires shared-slice-read-is-member-2 is-member-requires-2 returns)
