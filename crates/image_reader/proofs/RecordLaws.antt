@@ -92,6 +92,7 @@ module _ (n : ℕ) (xs : List ℕ) (at : ℕ) (row : List ℕ) where
   unfolding nodeOn
   node-sizes e = rw e
 
-  pub node-sized : {s : Outcome (Answered NodeRecord) (List ℕ)} → ((ltb n 1 || ltb 16 n) || not (eqb (length row) (n * 7))) ≡ false → s ≡ nodeInside n xs at row → s ≡ nodeOn n xs at row
+  pub node-sized : {s : Outcome (Answered NodeRecord) (List ℕ)} → ((ltb n 1 || ltb 16 n) || not (eqb (length row) (n * 7))) ≡ false
+      → s ≡ nodeInside n xs at row → s ≡ nodeOn n xs at row
   unfolding nodeOn
   node-sized e h = rw e h

@@ -107,7 +107,8 @@ channel-goes d l u v q inside few = go (eqb u v) refl inside
     next = q + 4 + fieldIn l q 4 * messageWidth d
 
     go : (b : Bool) → eqb u v ≡ b → cond b q next ≤ length l
-        → cond b (At q) (cond (ltb (length l) (q + 4)) (Refused BadEnd) (cond (ltb 8 (fieldIn l q 4)) (Refused (Fault u v)) (cond (ltb (length l) next) (Refused BadEnd) (At next))))
+        → cond b (At q)
+        (cond (ltb (length l) (q + 4)) (Refused BadEnd) (cond (ltb 8 (fieldIn l q 4)) (Refused (Fault u v)) (cond (ltb (length l) next) (Refused BadEnd) (At next))))
         ≡ At (cond b q next)
     go true e i = refl
     go false e i =

@@ -59,7 +59,8 @@ returns-5 c =
     let delta : deltaHolds (heightAt (a .words .now) (a .at) .delta) ≡ true =
     ap deltaHolds (sym (d .ensures)) ∙ sym (rw (toZ-ofZ f) at (c .before .before .before .before .delta-holds .ensures)) ∙ not-false _ (c .before .before .before .if3 .left) in
     by-leader (a .n) (a .k) (a .c) (a .words .now) (a .at) (omega (arith, k .shared-slice-known .given (a .at + 4)))
-    (eq-eqb _ _ (i .if1 .left)) (sym (l .level-within .ensures) ∙ not-false _ (c .before .before .before .before .before .before .before .if2 .left)) delta (le-leb _ _ (c .before .if4 .left))
+    (eq-eqb _ _ (i .if1 .left)) (sym (l .level-within .ensures) ∙ not-false _ (c .before .before .before .before .before .before .before .if2 .left)) delta
+    (le-leb _ _ (c .before .if4 .left))
 
 pub height-within-spec : {M : Type 1} → statement M
 height-within-spec =
