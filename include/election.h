@@ -102,10 +102,22 @@ extern "C" {
 #define ELECTION_CHANNELS_LEN(n) ELECTION_IF_SIZE_(n, (size_t)(n) * (size_t)(n) * ELECTION_CELL_LEN)
 #define ELECTION_ROW_LEN(n) ELECTION_IF_SIZE_(n, (size_t)(n) * ELECTION_HEIGHT_LEN)
 #define ELECTION_IMAGE_MAX(n) \
-    ELECTION_IF_SIZE_(n, (32 + (size_t)(n) * (64 + 96 * (size_t)(n)) + (size_t)(n) * ((size_t)(n) - 1) * (4 + ELECTION_CAPACITY * 128)) / 8)
+    ELECTION_IF_SIZE_(n, (ELECTION_HEADER_BITS_ + (size_t)(n) * ELECTION_STATION_BITS_(n) + (size_t)(n) * ((size_t)(n) - 1) * ELECTION_CHANNEL_BITS_) / 8)
 #define ELECTION_DRAWING_MAX(n) \
     ELECTION_IF_SIZE_(n, 17 + (size_t)(n) * (4 * (size_t)(n) + ((size_t)(n) < 10 ? (size_t)(n) : 2 * (size_t)(n) - 9)))
 #define ELECTION_IF_SIZE_(n, len) ((size_t)(n) >= 1 && (size_t)(n) <= ELECTION_MAX_STATIONS ? (len) : (size_t)0)
+
+/* Bits in an image, not part of the interface: how many stand before field k of a height or a message, that is, at 7 a height and at 8 a message; of the
+ * header; of a clock, a set and a count; of the record of one of n stations, and of a full channel. */
+#define ELECTION_FIELD_PLACE_(k)                                                               \
+    ((size_t)((k) > 0 ? 32 : 0) + ((k) > 1 ? 5 : 0) + ((k) > 2 ? 1 : 0) + ((k) > 3 ? 16 : 0)   \
+     + ((k) > 4 ? 32 : 0) + ((k) > 5 ? 5 : 0) + ((k) > 6 ? 5 : 0) + ((k) > 7 ? 32 : 0))
+#define ELECTION_HEADER_BITS_ 32
+#define ELECTION_CLOCK_BITS_ 32
+#define ELECTION_SET_BITS_ 16
+#define ELECTION_COUNT_BITS_ 4
+#define ELECTION_STATION_BITS_(n) (ELECTION_CLOCK_BITS_ + 2 * ELECTION_SET_BITS_ + ELECTION_FIELD_PLACE_(7) * (size_t)(n))
+#define ELECTION_CHANNEL_BITS_ (ELECTION_COUNT_BITS_ + ELECTION_CAPACITY * ELECTION_FIELD_PLACE_(8))
 
 /* Words of a height, a message, a cell, and a row of nodes. */
 #define ELECTION_HEIGHT_LEN ((size_t)7)
@@ -417,7 +429,7 @@ static inline election_height election_height_at(uint32_t n, uint32_t u, uint32_
 
 /* The bit at which station k's record starts in an image of n stations. */
 static inline uint64_t election_place(uint32_t n, uint32_t k) {
-    return election_is_station(n, k) ? 32 + (uint64_t)(k - 1) * (64 + 96 * (uint64_t)n) : 0;
+    return election_is_station(n, k) ? ELECTION_HEADER_BITS_ + (uint64_t)(k - 1) * ELECTION_STATION_BITS_(n) : 0;
 }
 
 #ifdef __cplusplus

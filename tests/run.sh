@@ -95,6 +95,11 @@ links_shown() {
     "$log/links" | bin/image show - | diff tests/c/links.out -
 }
 
+# The archive's constants, none of them a table of fields, are no more than docs/FIRMWARE.md says, and it has no other data.
+constants_fit() {
+    size -A "$archive" | awk '/^\.rodata/ { constants += $2 } /^\.(data|bss)/ { data += $2 } END { print constants + 0, data + 0; exit !(constants <= 836 && data == 0) }'
+}
+
 drawn() {
     python3 docs/draw_plot.py examples/plot.txt examples/plot.out | cmp docs/plot.svg - && python3 docs/draw_image.py | cmp docs/image.svg -
 }
@@ -137,6 +142,7 @@ if gcc --version >"$log/step" 2>&1 && g++ --version >"$log/step" 2>&1; then
     step "bin/image shows what decides each link of a planted plot (tests/c/links.c)" links_shown
     step "tests/c/stack.c compiles without a warning" compiles tests/c/stack -pthread -Wl,-z,now
     step "no call takes more stack than include/election.h says (tests/c/stack.c)" "$log/stack"
+    step "the archive has no more than 836 bytes of constants, and no data" constants_fit
     step "bin/install fills a folder to build from, and says what is wrong (tests/install.sh)" bash tests/install.sh
     for program in $programs; do
         if has_sanitizers; then

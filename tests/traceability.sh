@@ -1,7 +1,8 @@
 #!/usr/bin/env bash
 # Checks docs/TRACEABILITY.md against the project: every name in it exists, no cell is empty, every must-fail edit is named.
 # And what no proof says of the text: every public function of a library has a statement (but what the programs share, which prints); outside `height`
-# nothing negates a time, nor makes a leader pair of a word but where a height is given as numbers.
+# nothing negates a time, nor makes a leader pair of a word but where a height is given as numbers; in the code that reads and writes images the widths of
+# a height and a message stand in one list, every other width in one named constant, and no place in numbers; C and Rust have one such list each.
 # A line for each thing that is wrong and exit code 1, or one line with how many names were checked.
 # The notation, in every cell but the first of a row (other text in a cell is free):
 #   `crate` File `name`, `name`    names of crates/CRATE/specs/File.antt, crates/CRATE/specs/inner/File.antt or crates/CRATE/proofs/File.antt
@@ -99,7 +100,49 @@ bare() {
     awk '/^ *pub (extern "C" )?fn /{ head = FILENAME ": " $0 } /ensures/ { head = "" } /\{$/ { if (head != "") print head; head = "" }' "$@"
 }
 
+# Widths and places in the code that reads and writes images: every number there but 0, 1 and 2 is one, unless it stands as below (the most stations, the
+# bits of a byte, the ends of ranges, the header's bytes for 10, the most bits that a reader takes, a dash) or where `image` names it.
+numbers() {
+    awk '
+        FNR == 1 { skip = 0 }
+        /⌜/ { skip = 1 }
+        skip { if (/⌝/) skip = 0; next }
+        /^ *(ghost )?use / { next }
+        FILENAME == "crates/image/src/lib.rt" && /^pub const (HEADER_LENGTH|(DEPTH|VERSION|LENGTH|COUNT|CLOCK|SET|WAITING)_WIDTH): [a-z0-9]+ = [0-9]+;$/ { next }
+        FILENAME == "crates/image/src/widths.rt" && /^(    \[32, 5, 1, depth, 32, 5, 5, 32\]|pub const DEPTH: usize = 3;)$/ { next }
+        {
+            code = " " $0 " "
+            sub(/\/\/.*/, "", code)
+            gsub(/8 - at % 8| \+ 7\)|16 < n|image\.len\(\) < 4 |32 < width|rule: 45,|4294967295u32|18446744073709551615/, "", code)
+            gsub(/n <= 16[^0-9]|[\/%] 8[^0-9]/, "", code)
+            while (match(code, /[^A-Za-z0-9_][0-9][0-9A-Za-z_]*/)) {
+                n = substr(code, RSTART + 1, RLENGTH - 1)
+                code = substr(code, RSTART + RLENGTH)
+                if (n !~ /^[012](u32|usize)?$/) print FILENAME ":" FNR ": " n
+            }
+        }
+    ' "$@"
+}
+
+# How often the list of widths begins in C and in Rust: once.
+lists() {
+    local begins=$1
+    shift
+    [ "$(cat "$@" | tr -d ' \\\n' | grep -oE "$begins" | wc -l)" = 1 ] || echo "widths not listed once: $*"
+}
+
+# The same code without its comments.
+bare_c() { sed -e ':a' -e 's|/\*[^*]*\*/||; ta' -e '/\/\*/,/\*\//d' include/election.h; }
+bare_rust() { cat rust/src/*.rs | sed 's|//.*||'; }
+
 {
+    numbers crates/image/src/*.rt crates/image_{reader,reading,snapshot,writing}/src/*.rt crates/abi/src/*.rt | sed 's/^/a width or a place outside the list: /'
+    for number in 37 38 54 64 70 75 80 86 91 96 112 128 144 1028; do
+        bare_c | grep -nw "$number" | sed 's/^/election.h, a width or a place outside the list: /' || true
+        bare_rust | grep -nw "$number" | sed 's/^/rust, a width or a place outside the list: /' || true
+    done
+    lists '[(]k[)]>0[?]32:0' include/election.h
+    lists '32,5,1,' rust/src/*.rs
     for lib in crates/*/src/lib.rt; do grep -q 'io::' "$lib" || bare "${lib%/*}"/*.rt; done | sed 's/^/no statement: /'
     grep -n 'NegatedTime(\|nlts_of(\|\.negated()' crates/*/src/*.rt | grep -v '^crates/height/\|NegatedTime(0)' | sed 's/^/a time negated: /' || true
     grep -n 'pair_of(' crates/*/src/*.rt | grep -v '^crates/height/\|^crates/abi/src/reports.rt:\|^crates/height_cases/' | sed 's/^/a leader pair made of a word: /' || true

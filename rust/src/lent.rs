@@ -36,6 +36,31 @@ const fn size(n: u32) -> usize {
     }
 }
 
+/// Bits of an image's header, of a clock, a set and a count in it.
+const HEADER_BITS: usize = 32;
+const CLOCK_BITS: usize = 32;
+const SET_BITS: usize = 16;
+const COUNT_BITS: usize = 4;
+
+/// Bits of a height's seven numbers in an image, and of the stamp behind them in a message.
+const FIELD_BITS: [usize; 8] = [32, 5, 1, 16, 32, 5, 5, 32];
+
+/// Where field k of a height or a message starts: behind those before it.
+const fn field_place(k: usize) -> usize {
+    if k == 0 {
+        return 0;
+    }
+    field_place(k - 1) + FIELD_BITS[k - 1]
+}
+
+/// Bits of a station's record: its clock, both sets and n heights.
+const fn station_bits(n: usize) -> usize {
+    CLOCK_BITS + 2 * SET_BITS + n * field_place(7)
+}
+
+/// Bits of a full channel: the count, and its messages.
+const CHANNEL_BITS: usize = COUNT_BITS + CAPACITY as usize * field_place(8);
+
 /// Words of the stations' table, n (3 + 7 n); 0 for n outside 1 to 16.
 pub const fn nodes_len(n: u32) -> usize {
     size(n) * (3 + 7 * size(n))
@@ -57,8 +82,7 @@ pub const fn image_len(n: u32) -> usize {
     if k == 0 {
         return 0;
     }
-    let message = 128;
-    (32 + k * (64 + 96 * k) + k * (k - 1) * (4 + CAPACITY as usize * message)) / 8
+    (HEADER_BITS + k * station_bits(k) + k * (k - 1) * CHANNEL_BITS) / 8
 }
 
 /// Bytes that hold every drawing of n stations, 1,409 for 16; 0 for n outside 1 to 16.
@@ -76,7 +100,7 @@ pub const fn place(n: u32, k: u32) -> Option<u64> {
     if n > MAX_STATIONS || k < 1 || k > n {
         return None;
     }
-    Some(32 + (k as u64 - 1) * (64 + 96 * n as u64))
+    Some((HEADER_BITS + (k as usize - 1) * station_bits(n as usize)) as u64)
 }
 
 fn checked(c: ffi::Checked) -> Result<(), Refusal> {

@@ -14,7 +14,8 @@ use Rattle.drawing.specs.Draw.{drawOn, digitsTo, drawingLength}
 use Rattle.drawing.specs.Drawing.{drawing}
 use Rattle.drawing.proofs.Longest.{drawing-fits}
 use Rattle.image.specs.Image.{image}
-use Rattle.image.specs.Widths.{messageWidth, heightWidth, nodeWidth}
+use Rattle.image.specs.Widths.{nodeWidth}
+use Rattle.image.proofs.FieldPlaces.{height-ends, message-ends}
 use Rattle.image_snapshot.specs.Save.{saveOn}
 use Rattle.image_writing.specs.inner.Words.{cellBitsAt, cellsFromBits, cellsBits}
 use Rattle.image_writing.proofs.ImageLaws.{depth-16, counts, length-image}
@@ -58,7 +59,6 @@ rows-but-one w (suc k) (suc j) f l h e =
 module _ (n : ℕ) (t : Tables) (fit : TablesFit n t) where
   -- a count and 8 messages
   cell-le : (u v : ℕ) → Node n u → Node n v → length (cellBitsAt 16 n (t .channels) u v) ≤ 1028
-  unfolding messageWidth
   cell-le u v a b = go (equal? u v)
     where
       go : (u ≡ v) ⊎ (u ≡ v → ⊥) → length (cellBitsAt 16 n (t .channels) u v) ≤ 1028
@@ -67,7 +67,7 @@ module _ (n : ℕ) (t : Tables) (fit : TablesFit n t) where
           let c : ℕ = count (channelOf n u v (t .channels)) in
           omega (
             arith,
-            length-cell 16 n (t .channels) u v c depth-16 a b (fit .size .channels) (counts n t fit) refl e,
+            rw message-ends at (length-cell 16 n (t .channels) u v c depth-16 a b (fit .size .channels) (counts n t fit) refl e),
             fit .cells u v a b .few,
           )
 
@@ -114,16 +114,16 @@ whole-channels n m e =
 -- ---- room for every image
 
 pub longest : imageLength 16 ≡ 34044
-unfolding imageLength nodeWidth heightWidth messageWidth
-longest = refl
+unfolding imageLength nodeWidth
+longest = rw (height-ends, message-ends)
 
 module _ (n : ℕ) (t : Tables) where
   length-le : TablesFit n t → length (image n (load n t)) ≤ imageLength n
-  unfolding imageLength nodeWidth heightWidth messageWidth
+  unfolding imageLength nodeWidth
   length-le fit =
       let cells = cells-le n t fit in
       let size = fit .size in
-      rw (le-leb 1 n (size .low), le-leb n 16 (size .few), length-image n t fit)
+      rw (le-leb 1 n (size .low), le-leb n 16 (size .few), length-image n t fit, height-ends, message-ends)
       (bytes-le (32 + n * (64 + 96 * n)) (n * (n - 1) * 1028) (length (cellsBits 16 n (t .channels))) _ _ (whole-front n)
       (whole-channels n (n - 1) (omega (arith, size .low))) (omega (arith, cells, mul-assoc n (n - 1) 1028)))
 

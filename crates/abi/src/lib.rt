@@ -159,7 +159,7 @@ pub extern "C" fn election_image_len(n: u32) -> usize
         let k = n as usize;
         let message = image::widths::message(image::DEPTH_WIDTH);
         let nodes = k * image::widths::node(image::DEPTH_WIDTH, k);
-        let channels = k * (k - 1) * (4 + tables::CAPACITY * message);
+        let channels = k * (k - 1) * (image::WAITING_WIDTH + tables::CAPACITY * message);
         return (image::HEADER_END + nodes + channels) / 8;
     }
     0

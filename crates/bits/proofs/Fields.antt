@@ -1,5 +1,5 @@
 -- Laws of fields end to end, over every list of widths.
-use Prim.Native.Nat.{ℕ, suc, _+_, _*_, _^_, _≤_, _<_}
+use Prim.Native.Nat.{ℕ, zero, suc, _+_, _*_, _^_, _≤_, _<_}
 use native.Mathlib.Nat.{add-zero, mod-eq-of-lt}
 use native.Mathlib.Numerals.{add-one}
 use native.Mathlib.Omega.{arith}
@@ -7,8 +7,8 @@ use mathlib.Core.Path.{_≡_, refl, sym, ap, ap₂, _∙_}
 use mathlib.Core.List.{List, [], _∷_, _++_, append-assoc, append-nil}
 use lib.ListN.{length, take, drop, getD, set, length-append, length-take, length-drop, take-append-drop}
 use lib.Seq.{take-at, drop-at, take-suc, drop-cons, drop-drop, take-add, set-at}
-use Rattle.bits.specs.Bits.{bits, number, unpacked, field, spread, gathered}
-use Rattle.bits.specs.inner.Written.{written, total}
+use Rattle.bits.specs.Bits.{bits, number, unpacked, field, total, spread, gathered}
+use Rattle.bits.specs.inner.Written.{written}
 use Rattle.bits.proofs.Bytes.{below-unpacked, length-unpacked, written-tail, written-own}
 use Rattle.bits.proofs.Numbers.{Below, below-nil, below-append, below-bits, below-take, below-drop, length-bits, number-bits, bits-number}
 
@@ -126,6 +126,26 @@ gathered-more ws bs k h =
     ap (λ (n : ℕ). gathered (take n ws) bs) (add-one k)
     ∙ ap (λ (t : List ℕ). gathered t bs) (take-suc ws k 0 h)
     ∙ gathered-append (take k ws) (getD ws k 0 ∷ []) bs
+
+-- ---- the place of a field: what stands there of fields that are put, and what is got from there
+pub spread-at : (ws vs : List ℕ) (k : ℕ) → k < length ws → length ws ≡ length vs
+    → take (getD ws k 0) (drop (total (take k ws)) (spread ws vs)) ≡ bits (getD ws k 0) (getD vs k 0)
+unfolding spread total
+spread-at [] vs k h e = absurd (omega arith)
+spread-at (w ∷ ws) [] k h e = absurd (omega arith)
+spread-at (w ∷ ws) (v ∷ vs) zero h e = take-at (bits w v) (spread ws vs) w (length-bits w v)
+spread-at (w ∷ ws) (v ∷ vs) (suc k) h e =
+    let t : ℕ = total (take k ws) in
+    ap (take (getD ws k 0)) (sym (drop-drop t w (bits w v ++ spread ws vs)) ∙ ap (drop t) (drop-at (bits w v) (spread ws vs) w (length-bits w v)))
+    ∙ spread-at ws vs k (omega arith) (omega arith)
+
+pub gathered-at : (ws bs : List ℕ) (k : ℕ) → k < length ws → getD (gathered ws bs) k 0 ≡ number (take (getD ws k 0) (drop (total (take k ws)) bs))
+unfolding gathered total
+gathered-at [] bs k h = absurd (omega arith)
+gathered-at (w ∷ ws) bs zero h = refl
+gathered-at (w ∷ ws) bs (suc k) h =
+    gathered-at ws (drop w bs) k (omega arith)
+    ∙ ap (λ (l : List ℕ). number (take (getD ws k 0) l)) (drop-drop (total (take k ws)) w bs)
 
 -- fields follow one another without a gap, inside the record
 pub total-take-le : (ws : List ℕ) (k : ℕ) → total (take k ws) ≤ total ws

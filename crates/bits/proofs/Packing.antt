@@ -9,8 +9,8 @@ use lib.ListN.{length, take, getD, set, length-append, length-set}
 use lib.Pow.{pow-pos, pow-add}
 use lib.Seq.{take-all, getD-set-same, getD-set-other}
 use lib.Arith.{digits-lt}
-use Rattle.bits.specs.Bits.{bits, spread}
-use Rattle.bits.specs.inner.Written.{written, total, wordBits}
+use Rattle.bits.specs.Bits.{bits, total, spread}
+use Rattle.bits.specs.inner.Written.{written, wordBits}
 use Rattle.bits.proofs.Bytes.{written-written}
 use Rattle.bits.proofs.Fields.{total-more, spread-more}
 use Rattle.bits.proofs.Numbers.{Below, below-nil, below-append, length-bits, below-bits}

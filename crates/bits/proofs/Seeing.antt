@@ -5,8 +5,8 @@ use mathlib.Core.Path.{_≡_, refl, sym, ap, subst, _∙_}
 use mathlib.Core.List.{List, [], _∷_, _++_, append-nil}
 use lib.ListN.{length, take, drop, getD, set, length-set, drop-of-length-le}
 use lib.Seq.{take-all}
-use Rattle.bits.specs.Bits.{unpacked, field, gathered}
-use Rattle.bits.specs.inner.Written.{total, RoomFor}
+use Rattle.bits.specs.Bits.{unpacked, field, total, gathered}
+use Rattle.bits.specs.inner.Written.{RoomFor}
 use Rattle.bits.proofs.Fields.{total-more, get-more}
 use Rattle.bits.proofs.SixtyFour.{cut-at}
 

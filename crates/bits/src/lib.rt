@@ -4,8 +4,8 @@ ghost use mathlib.Core.Path.{_≡_};
 ghost use mathlib.Core.List.{_++_};
 ghost use Prim.Native.Nat.{ℕ, _+_, _*_, _/_, _%_, _^_, _≤_, _<_};
 ghost use lib.ListN.{length, drop, getD};
-ghost use Rattle.bits.specs.Bits.{bits, unpacked, field, spread, gathered};
-ghost use Rattle.bits.specs.inner.Written.{over, written, total, wordBits, RoomFor};
+ghost use Rattle.bits.specs.Bits.{bits, unpacked, field, total, spread, gathered};
+ghost use Rattle.bits.specs.inner.Written.{over, written, wordBits, RoomFor};
 
 mod words;
 

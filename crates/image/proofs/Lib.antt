@@ -1,7 +1,8 @@
 -- Laws of images: round trips, rows and cells put and got.
-pub mod Bounds
 pub mod RowsMore
 pub mod FieldInLaws
+pub mod FieldPlaces
+pub mod Bounds
 pub mod RecordLaws
 pub mod StampLaws
 pub mod WalkLaws
@@ -12,6 +13,8 @@ pub mod WriteBack
 pub mod ImageBits
 pub mod Whole
 pub mod NetworkFits
+pub mod PlacedFields
+pub mod PlacedInImage
 pub mod PartLaws
 pub mod PartTurns
 pub mod PartCalls

@@ -9,8 +9,7 @@ use lib.Dec.{eqb}
 use lib.ListN.{length, take, drop, replicate, length-append, length-drop, replicate-append-replicate}
 use lib.Seq.{drop-drop}
 use Rattle.basics.proofs.AllOf.{none, more}
-use Rattle.bits.specs.Bits.{bits}
-use Rattle.bits.specs.inner.Written.{total}
+use Rattle.bits.specs.Bits.{bits, total}
 use Rattle.bits.proofs.Numbers.{Below, below-append, below-bits, length-bits}
 use Rattle.tables.specs.Cell.{count}
 use Rattle.tables.specs.Records.{Records, rowWords, slotWords, cellWords}

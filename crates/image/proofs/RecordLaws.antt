@@ -11,12 +11,12 @@ use borrow.Author.Tests.{lt-ltb, le-ltb}
 use lib.ListN.{length, take, drop, getD, set, length-take, length-set}
 use lib.Seq.{set-set, set-getD, getD-set-same, getD-take}
 use lib.Pow.{pow-pos, pow-mono, high-ones}
-use Rattle.bits.specs.Bits.{bits, spread, gathered}
-use Rattle.bits.specs.inner.Written.{total, RoomFor}
+use Rattle.bits.specs.Bits.{bits, total, spread, gathered}
+use Rattle.bits.specs.inner.Written.{RoomFor}
 use Rattle.bits.proofs.Fields.{Fitting, spread-gathered, gathered-spread, length-gathered, length-spread, below-spread}
 use Rattle.bits.proofs.Numbers.{Below, bits-cong, below-nil, below-cons, below-take, below-drop}
 use Rattle.image.specs.Places.{fieldIn}
-use Rattle.image.specs.Widths.{widthsOf, extendedOf, recordBits, recordOf, heightWidth, messageWidth}
+use Rattle.image.specs.Widths.{widthsOf, fieldPlace, extendedOf, recordBits, recordOf, heightWidth, messageWidth}
 use Rattle.image.proofs.FieldInLaws.{field-in-lt}
 
 -- a word that w bits in two's complement hold
@@ -80,12 +80,12 @@ pub depth-width : (d k : ℕ) → 4 ≤ k → getD (take k (widthsOf d)) 3 0 ≡
 depth-width d k h = getD-take k (widthsOf d) 3 0 h
 
 pub total-height : (d : ℕ) → total (take 7 (widthsOf d)) ≡ heightWidth d
-unfolding total heightWidth
-total-height d = omega arith
+unfolding heightWidth fieldPlace
+total-height d = refl
 
 pub total-message : (d : ℕ) → total (take 8 (widthsOf d)) ≡ messageWidth d
-unfolding total messageWidth
-total-message d = omega arith
+unfolding messageWidth fieldPlace
+total-message d = refl
 
 -- no field is wider than a word
 pub widths-narrow : (d k : ℕ) → d ≤ 32 → Below 33 (take k (widthsOf d))

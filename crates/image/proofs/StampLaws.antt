@@ -9,12 +9,13 @@ use mathlib.Core.Path.{_≡_, sym, ap, ap₂, _∙_}
 use mathlib.Core.List.{List, [], _∷_, _++_, append-nil}
 use lib.ListN.{length, take, drop, getD, set, length-set, length-append, length-drop, length-take, drop-of-length-le}
 use lib.Seq.{take-all, drop-cons, drop-drop, set-at, set-append-left, getD-take, take-append-seam}
-use Rattle.bits.specs.Bits.{bits, number, unpacked, field, spread, gathered}
-use Rattle.bits.specs.inner.Written.{written, total, RoomFor}
+use Rattle.bits.specs.Bits.{bits, number, unpacked, field, total, spread, gathered}
+use Rattle.bits.specs.inner.Written.{written, RoomFor}
 use Rattle.bits.proofs.Bytes.{written-written}
 use Rattle.bits.proofs.Fields.{below-spread, length-spread, length-gathered, spread-more, gathered-more}
 use Rattle.bits.proofs.Numbers.{length-bits}
-use Rattle.image.specs.Widths.{widthsOf, extendedOf, recordBits, recordOf, heightWidth, messageWidth}
+use Rattle.image.specs.Widths.{widthsOf, extendedOf, recordBits, recordOf, heightWidth}
+use Rattle.image.proofs.FieldPlaces.{message-wider}
 use Rattle.image.proofs.RecordLaws.{length-widths, depth-width, total-height, total-message, room}
 
 -- ---- room
@@ -25,10 +26,6 @@ seven-or-eight n a b = go (decLt n 8)
     go : Dec (n < 8) → (n ≡ 7) ⊎ (n ≡ 8)
     go (yes l) = inl (omega arith)
     go (no g) = inr (omega arith)
-
-message-wider : (d : ℕ) → messageWidth d ≡ heightWidth d + 32
-unfolding messageWidth heightWidth
-message-wider d = omega arith
 
 record-total : (d n : ℕ) → 7 ≤ n → n ≤ 8 → heightWidth d ≤ total (take n (widthsOf d))
 record-total d n a b =
@@ -46,6 +43,10 @@ pub stamp-room : (xs : List ℕ) (at d n : ℕ) → n ≡ 8 → RoomFor xs at (t
 stamp-room xs at d n e r =
     let t : total (take n (widthsOf d)) ≡ heightWidth d + 32 = rw e (total-message d ∙ message-wider d) in
     (omega (arith, r .small), omega (arith, r .inside))
+
+-- and is as wide as the last field
+pub stamp-wide : (d : ℕ) (w : List ℕ) → w ≡ widthsOf d → getD w 7 0 ≡ 32
+stamp-wide d w e = ap (λ (l : List ℕ). getD l 7 0) e
 
 -- ---- putting
 

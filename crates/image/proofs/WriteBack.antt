@@ -10,8 +10,7 @@ use lib.Dec.{eqb}
 use lib.ListN.{length, take, drop, length-drop, take-append-drop}
 use lib.Seq.{drop-drop}
 use Rattle.basics.proofs.Tests.{Choice, yes!, no!, choice}
-use Rattle.bits.specs.Bits.{bits}
-use Rattle.bits.specs.inner.Written.{total}
+use Rattle.bits.specs.Bits.{bits, total}
 use Rattle.bits.proofs.Numbers.{Below, below-drop}
 use Rattle.tables.specs.Records.{Records}
 use Rattle.tables.specs.Rows.{rows}

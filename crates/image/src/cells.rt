@@ -11,6 +11,7 @@ ghost use Rattle.tables.specs.Tables.{messageSize, cellWidth};
 ghost use Rattle.image.specs.Places.{fieldIn, messagesOf};
 ghost use Rattle.image.specs.Widths.{messageWidth};
 ghost use Rattle.image.specs.inner.Parts.{Inside, Depth, cellBits, cellFrom};
+use super::WAITING_WIDTH;
 use super::widths;
 use tables::MESSAGE_SIZE;
 
@@ -21,13 +22,21 @@ pub fn put_cell(buf: &mut [u8], at: usize, depth: u8, cell: &[u32]) -> usize
         × (r ≡ at + 4 + count (now (cell .entry)) * messageWidth depth) ⌝ }
 {
     let c = cell[0] as usize;
-    bits::put(buf, at, 4, cell[0]);
+    bits::put(buf, at, WAITING_WIDTH, cell[0]);
     if c == 0 {
-        return at + 4;
+        return at + WAITING_WIDTH;
     }
     let w = widths::message(depth);
-    super::records::put_records(buf, at + 4, depth, MESSAGE_SIZE, w, c, &cell[1..]);
-    at + 4 + c * w
+    super::records::put_records(
+        buf,
+        at + WAITING_WIDTH,
+        depth,
+        MESSAGE_SIZE,
+        w,
+        c,
+        &cell[1..],
+    );
+    at + WAITING_WIDTH + c * w
 }
 
 // c messages from a bit place, then zero words; where there are none, no run of records is begun.
@@ -57,9 +66,9 @@ pub fn get_cell(bytes: &[u8], at: usize, depth: u8, cell: &mut [u32]) -> usize
     ensures { λ r. ⌜ (now (cell .exit) ≡ cellFrom depth (unpacked (now (bytes .entry))) at)
         × (r ≡ at + 4 + fieldIn (unpacked (now (bytes .entry))) at 4 * messageWidth depth) ⌝ }
 {
-    let count = bits::get(bytes, at, 4);
+    let count = bits::get(bytes, at, WAITING_WIDTH);
     let c = count as usize;
     cell[0] = count;
-    get_messages(bytes, at + 4, depth, c, &mut cell[1..]);
-    at + 4 + c * widths::message(depth)
+    get_messages(bytes, at + WAITING_WIDTH, depth, c, &mut cell[1..]);
+    at + WAITING_WIDTH + c * widths::message(depth)
 }

@@ -9,19 +9,11 @@ ghost use Rattle.height.specs.Words.{heightSize};
 ghost use Rattle.tables.specs.Tables.{messageSize};
 ghost use Rattle.image.specs.inner.Parts.{recordsFrom, RecordRun, recordsBits};
 ghost use Rattle.image.specs.Widths.{widthsOf, extendedOf, recordBits, recordOf};
+use super::widths;
+use super::widths::DEPTH;
+use super::widths::STAMP;
 use tables::HEIGHT_SIZE;
 use tables::MESSAGE_SIZE;
-
-const WIDTHS: [u8; MESSAGE_SIZE] = [32, 5, 1, 16, 32, 5, 5, 32];
-
-// The widths of a message's fields, with depths of `depth` bits; the first seven are a height's.
-fn widths(depth: u8) -> [u8; MESSAGE_SIZE]
-    ensures { λ r. ⌜ r ≡ widthsOf depth ⌝ }
-{
-    let mut w = WIDTHS;
-    w[3] = depth;
-    w
-}
 
 // A number of `width` bits in two's complement, as a word of 32 bits.
 fn extended(v: u32, width: u32) -> u32
@@ -41,15 +33,11 @@ pub fn put_record(buf: &mut [u8], at: usize, depth: u8, words: &[u32])
     requires { ⌜ RoomFor (now buf) at (take (length (now words)) (widthsOf depth)) × ((heightSize ≤ length (now words)) × (length (now words) ≤ messageSize)) ⌝ }
     ensures { λ _. ⌜ now (buf .exit) ≡ written (now (buf .entry)) at (recordBits depth (now (words .entry))) ⌝ }
 {
-    let w = widths(depth);
+    let w = widths::fields(depth);
     bits::put_fields(buf, at, &w[..HEIGHT_SIZE], &words[..HEIGHT_SIZE]);
     if words.len() == MESSAGE_SIZE {
-        bits::put(
-            buf,
-            at + super::widths::height(depth),
-            32,
-            words[HEIGHT_SIZE],
-        );
+        let place = at + widths::place(depth, STAMP);
+        bits::put(buf, place, w[STAMP] as usize, words[STAMP]);
     }
 }
 
@@ -58,11 +46,12 @@ pub fn get_record(bytes: &[u8], at: usize, depth: u8, words: &mut [u32])
     requires { ⌜ RoomFor (now bytes) at (take (length (now words)) (widthsOf depth)) × (((heightSize ≤ length (now words)) × (length (now words) ≤ messageSize)) × (1 ≤ depth)) ⌝ }
     ensures { λ _. ⌜ now (words .exit) ≡ recordOf depth (length (now (words .entry))) (drop at (unpacked (now (bytes .entry)))) ⌝ }
 {
-    let w = widths(depth);
+    let w = widths::fields(depth);
     bits::get_fields(bytes, at, &w[..HEIGHT_SIZE], &mut words[..HEIGHT_SIZE]);
-    words[3] = extended(words[3], depth as u32);
+    words[DEPTH] = extended(words[DEPTH], depth as u32);
     if words.len() == MESSAGE_SIZE {
-        words[HEIGHT_SIZE] = bits::get(bytes, at + super::widths::height(depth), 32);
+        let place = at + widths::place(depth, STAMP);
+        words[STAMP] = bits::get(bytes, place, w[STAMP] as usize);
     }
 }
 

@@ -12,6 +12,7 @@ use Rattle.bits.specs.Bits.{number, unpacked}
 use Rattle.image.specs.Places.{fieldIn, heightFrom, heightsFrom}
 use Rattle.image.specs.Widths.{recordOf, heightWidth, nodeWidth}
 use Rattle.image.specs.inner.Parts.{Inside}
+use Rattle.image.proofs.Bounds.{node-small}
 use Rattle.image.proofs.PartCalls.{rest-length}
 use Rattle.refusal.specs.Outcome.{Answered, Outcome, accepted, outcome}
 use Rattle.refusal.specs.Refusal.{why}
@@ -53,8 +54,7 @@ module _ (xs : List ℕ) (k p at : ℕ) (e : 8 * k + p ≡ at) where
 -- the record stands inside what is left from its first byte on
 pub rest-inside : (n : ℕ) (xs : List ℕ) (at : ℕ) → n ≤ 16 → at + nodeWidth 16 n ≤ 8 * length xs
     → Inside (take (length xs - at / 8) (drop (at / 8) xs)) (at % 8) (nodeWidth 16 n)
-unfolding nodeWidth heightWidth
-rest-inside n xs at few h = record { small = omega (arith, few); inside = omega (arith, h, rest-length (at / 8) xs) }
+rest-inside n xs at few h = record { small = omega (arith, node-small 16 n (omega arith) few); inside = omega (arith, h, rest-length (at / 8) xs) }
 
 pub rest-read : (n : ℕ) (xs : List ℕ) (at : ℕ) {s : Outcome (Answered NodeRecord) (List ℕ)} → s ≡ recordIn n (unpacked (take (length xs - at / 8) (drop (at / 8) xs))) (at % 8)
     → s ≡ recordIn n (unpacked xs) at

@@ -21,9 +21,9 @@ fn record_at(image: &[u8], at: usize, n: u32, row: &mut [u32]) -> NodeRecord
     ensures { λ r. ⌜ outcome (saidNode (Found r)) (now (row .exit)) ≡ recordIn n (unpacked (now (image .entry))) at ⌝ }
 {
     image::rows::get_heights(image, at, image::DEPTH_WIDTH, n as usize, row);
-    let clock = Time(bits::get(image, at, 32));
-    let neighbors = bits::get(image, at + 32, 16) as u16;
-    let forming = bits::get(image, at + 48, 16) as u16;
+    let clock = Time(bits::get(image, at, image::CLOCK_WIDTH));
+    let neighbors = bits::get(image, at + image::NEIGHBORS_PLACE, image::SET_WIDTH) as u16;
+    let forming = bits::get(image, at + image::FORMING_PLACE, image::SET_WIDTH) as u16;
     NodeRecord {
         clock,
         neighbors,

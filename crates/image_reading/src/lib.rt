@@ -56,10 +56,10 @@ pub fn decode(image: &[u8]) -> Header
     if image.len() < 4 {
         return Header::Refused(Refusal::TooShort);
     }
-    let version = bits::get(image, 0, 4);
-    let length = bits::get(image, 4, 12);
-    let n = bits::get(image, 16, 5);
-    let spare = bits::get(image, 21, 11);
+    let version = bits::get(image, 0, image::VERSION_WIDTH);
+    let length = bits::get(image, image::LENGTH_PLACE, image::LENGTH_WIDTH);
+    let n = bits::get(image, image::COUNT_PLACE, image::COUNT_WIDTH);
+    let spare = bits::get(image, image::SPARE_PLACE, image::SPARE_WIDTH);
     if (version == 1) & (length == image::HEADER_LENGTH) & ((1 <= n) & (n <= 16)) & (spare == 0) {
         return Header::Good(Fields { version, length, n });
     }

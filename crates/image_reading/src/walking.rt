@@ -16,14 +16,14 @@ fn walk_channel(bytes: &[u8], depth: u8, u: u32, v: u32, at: usize) -> Walk
     if u == v {
         return Walk::At(at);
     }
-    if (at + 11) / 8 > bytes.len() {
+    if (at + (image::WAITING_WIDTH + 7)) / 8 > bytes.len() {
         return Walk::Refused(Refusal::BadEnd);
     }
-    let c = bits::get(bytes, at, 4) as usize;
+    let c = bits::get(bytes, at, image::WAITING_WIDTH) as usize;
     if c > tables::CAPACITY {
         return Walk::Refused(Refusal::Fault(u, v));
     }
-    let next = at + 4 + c * image::widths::message(depth);
+    let next = at + image::WAITING_WIDTH + c * image::widths::message(depth);
     if (next + 7) / 8 > bytes.len() {
         return Walk::Refused(Refusal::BadEnd);
     }

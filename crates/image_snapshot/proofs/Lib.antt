@@ -3,6 +3,7 @@ pub mod ImageLaws
 pub mod RestoreSaved
 pub mod AcceptedLaws
 pub mod SameImage
+pub mod SavedNumbers
 pub mod RestoreAny
 pub mod RefusedLaws
 pub mod NodePlaces

@@ -26,11 +26,11 @@ use Rattle.image_snapshot.proofs.AcceptedLaws.{HeaderGood, header-good}
 
 -- two nodes never start at one place
 pub place-one : (h n j k : ℕ) → Node n j → Node n k → nodePlace h 16 n j ≡ nodePlace h 16 n k → j ≡ k
-unfolding nodePlace nodeWidth heightWidth
+unfolding nodePlace nodeWidth
 place-one h n j k a b e = go (decLt j k) (decLt k j)
   where
     w : ℕ
-    w = 64 + 96 * n
+    w = 64 + heightWidth 16 * n
 
     later : (x y : ℕ) → x < y → x * w < y * w
     later x y l =

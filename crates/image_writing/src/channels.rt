@@ -19,7 +19,7 @@ fn cells_from_length(depth: u8, n: u32, u: u32, channels: &[u32]) -> usize
     while v <= n {
         if u != v {
             let cell = tables::rows::channel(n, u, v, channels);
-            sum += 4 + (tables::cells::waiting(cell) as usize) * w;
+            sum += image::WAITING_WIDTH + (tables::cells::waiting(cell) as usize) * w;
         }
         v += 1;
     }

@@ -14,10 +14,15 @@ pub fn put_header(buf: &mut [u8], n: u32)
     requires { ⌜ 4 ≤ length (now buf) ⌝ }
     ensures { λ _. ⌜ now (buf .exit) ≡ written (now (buf .entry)) 0 (headerBits 1 headerLength n) ⌝ }
 {
-    bits::put(buf, 0, 4, 1);
-    bits::put(buf, 4, 12, image::HEADER_LENGTH);
-    bits::put(buf, 16, 5, n);
-    bits::put(buf, 21, 11, 0);
+    bits::put(buf, 0, image::VERSION_WIDTH, 1);
+    bits::put(
+        buf,
+        image::LENGTH_PLACE,
+        image::LENGTH_WIDTH,
+        image::HEADER_LENGTH,
+    );
+    bits::put(buf, image::COUNT_PLACE, image::COUNT_WIDTH, n);
+    bits::put(buf, image::SPARE_PLACE, image::SPARE_WIDTH, 0);
 }
 
 // The n rows go to a bit place.

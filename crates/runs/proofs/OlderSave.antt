@@ -7,7 +7,7 @@ use mathlib.Core.List.{List, [], _∷_, _++_, map}
 use mathlib.Core.Path.{_≡_, refl}
 use lib.ListN.{set, replicate}
 use Rattle.basics.specs.Functions.{every, everyPair, all, update}
-use Rattle.bits.specs.Bits.{bits, number, unpacked, packed, field, spread, gathered}
+use Rattle.bits.specs.Bits.{bits, number, unpacked, packed, field, total, spread, gathered}
 use Rattle.calls.specs.Component.{Quiescent, OneLeader}
 use Rattle.calls.specs.History.{Entry, entry, upIn, waiting}
 use Rattle.calls.specs.Run.{Call, event, save, restore, Saved, startOfRun}
@@ -23,7 +23,7 @@ use Rattle.image.specs.Image.{headerBits, nodeBits, messageBits, channelBits, c
 use Rattle.image.specs.Places.{channelsNext, channelsPlace, channelsFromPlace, channelPlace, recordsIn, tablesIn}
 use Rattle.image.specs.inner.Parts.{imageEnd}
 use Rattle.image.specs.Places.{fieldIn, nodePlace, heightFrom, messagesOf, channelFrom, walked, channelNext}
-use Rattle.image.specs.Widths.{recordBits, extendedOf, recordOf, heightWidth, messageWidth, nodeWidth}
+use Rattle.image.specs.Widths.{fieldPlace, recordBits, extendedOf, recordOf, heightWidth, messageWidth, nodeWidth}
 use Rattle.image_reading.specs.Examine.{afterWalk, examined}
 use Rattle.image_reading.specs.Header.{headerHolds, headerOf}
 use Rattle.image_reading.specs.Walk.{channelStep, onward, steps, channelsFromWalk, channelsWalk, walk, endsAt}
@@ -177,10 +177,10 @@ pub record TakenBack : Type 0 where
 -- ---- the proof
 
 pub computed : Computed
-unfolding bits number unpacked packed field spread gathered stepAt stepChecked stepOn levelKey pairKey heightKey before same deltaOf
+unfolding bits number unpacked packed field total spread gathered stepAt stepChecked stepOn levelKey pairKey heightKey before same deltaOf
     deltaWord heightWords heightAt headerBits nodeBits messageBits channelBits channelsBits networkBits padded bytesOf imageOf image fieldIn
     heightFrom messagesOf channelFrom walked channelNext channelsNext channelsPlace channelsFromPlace channelPlace imageEnd recordsIn
-    tablesIn recordsOf rowWords slotWords cellWords tablesFrom recordBits extendedOf recordOf heightWidth messageWidth nodeWidth pairAt
+    tablesIn recordsOf rowWords slotWords cellWords tablesFrom fieldPlace recordBits extendedOf recordOf heightWidth messageWidth nodeWidth pairAt
     faultInRow faultFrom firstFault firstUntimely contentsOn checkOn timelyAt timelyIn timesWithin messageTimely member setOf within
     ownSound viewSound channelSound pairSound every everyPair all update levelHolds
     deltaHolds leaderPairHolds heightHolds messageHolds notInBoth setsHold misnamed late hasRoom crowded returned accepts answer next absent

@@ -10,6 +10,7 @@ pub mod damaged_images;
 pub mod damaged_tables;
 pub mod drawings;
 pub mod events;
+pub mod fields;
 // rust/src/ffi.rs, taken in whole; it says why.
 #[path = "../../../rust/src/ffi.rs"]
 pub mod ffi;

@@ -3,8 +3,8 @@
 use crate::random::Random;
 use crate::tally::Tally;
 use crate::{
-    damaged_images, damaged_tables, drawings, heights, histories, places, planted_times, questions,
-    sizes,
+    damaged_images, damaged_tables, drawings, fields, heights, histories, places, planted_times,
+    questions, sizes,
 };
 
 /// A kind of round.
@@ -24,7 +24,7 @@ const fn kind(name: &'static str, round: fn(u64, &mut Tally), in_a_lap: usize) -
 }
 
 /// All kinds of rounds.
-pub const KINDS: [Kind; 17] = [
+pub const KINDS: [Kind; 18] = [
     kind("fresh history", histories::fresh_history, 20),
     kind("planted history", histories::planted_history, 40),
     kind("planted groups", questions::planted_groups, 40),
@@ -38,6 +38,7 @@ pub const KINDS: [Kind; 17] = [
     kind("damaged images", damaged_images::damaged_images, 10),
     kind("wrong sizes", sizes::wrong_sizes, 2),
     kind("small rooms", sizes::small_rooms, 2),
+    kind("placed fields", fields::placed_fields, 10),
     kind("every place", places::every_place_of_few, 1),
     kind("some places", places::some_places, 2),
     kind("changed headers", places::changed_headers, 5),

@@ -1,4 +1,4 @@
-//! Saved places beside the reference.
+//! Saved places beside the reference, and the places of fields.
 
 use compare::places::every_place;
 use compare::rounds::{run, seed};
@@ -14,6 +14,15 @@ fn every_place_of_small_images() {
         assert_eq!(tally.count("look 0"), n as u64);
         tally.assert_met(&["look 3", "look 13"]);
         println!("n = {n}:\n{tally}");
+    }
+}
+
+/// Document 02 [4]: images put together number by number, each at its place; no field is zero in all of them.
+#[test]
+fn each_number_at_its_place() {
+    let tally = run("placed fields", 200);
+    for k in 0..8 {
+        tally.assert_met(&[&format!("field {k}")]);
     }
 }
 

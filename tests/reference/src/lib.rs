@@ -11,6 +11,7 @@
 //! | [`refusal`] | Returned numbers |
 //! | [`tables`] | Returned numbers (1 and 2), over the lent tables |
 //! | [`image`] | The plot image |
+//! | [`fields`] | The plot image (heights and messages), with request [4] of document 02 |
 //! | [`history`] | Lists of calls (what the events make of the channels) |
 //! | [`quiet`] | Lists of calls (demand 3: groups, collectors and chains) |
 //! | [`bench`] | The bench program |
@@ -25,6 +26,7 @@ mod bits;
 mod dice;
 pub mod drawing;
 mod event;
+pub mod fields;
 pub mod history;
 pub mod image;
 pub mod parting;
@@ -43,6 +45,8 @@ pub mod times;
 mod worked_arrows;
 #[cfg(test)]
 mod worked_drawings;
+#[cfg(test)]
+mod worked_fields;
 #[cfg(test)]
 mod worked_forms;
 #[cfg(test)]

@@ -6,8 +6,7 @@ use mathlib.Core.Path.{_≡_, refl, ap, ap₂, _∙_}
 use mathlib.Core.List.{List, _++_, append-nil}
 use lib.ListN.{length, getD, set, take, drop, length-set, drop-of-length-le}
 use lib.Seq.{take-all}
-use Rattle.bits.specs.Bits.{unpacked, gathered, field}
-use Rattle.bits.specs.inner.Written.{total}
+use Rattle.bits.specs.Bits.{unpacked, field, total, gathered}
 use Rattle.bits.proofs.Fields.{total-in, total-more, get-more}
 use Rattle.bits.proofs.get_near_end.Statement.{statement}
 use Rattle.bits.proofs.get_near_end.Tie as tie

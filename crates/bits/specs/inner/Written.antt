@@ -2,7 +2,7 @@
 use Prim.Native.Nat.{ℕ, zero, suc, _+_, _*_, _^_, _≤_, _<_}
 use mathlib.Core.List.{List, [], _∷_, _++_}
 use lib.ListN.{length, take, drop, getD}
-use Rattle.bits.specs.Bits.{bits, unpacked, packed}
+use Rattle.bits.specs.Bits.{bits, unpacked, packed, total}
 
 -- the list with bs written over it from a place on
 unfoldable pub over : List ℕ → ℕ → List ℕ → List ℕ
@@ -11,11 +11,6 @@ over l at bs = take at l ++ (bs ++ drop (at + length bs) l)
 -- bytes with bits written over theirs from a bit place on
 unfoldable pub written : List ℕ → ℕ → List ℕ → List ℕ
 written xs at bs = packed (length xs) (over (unpacked xs) at bs)
-
--- how many bits fields of these widths take
-unfoldable pub total : List ℕ → ℕ
-total [] = 0
-total (w ∷ ws) = w + total ws
 
 -- the bits of the first j of these numbers of 64 bits
 unfoldable pub wordBits : ℕ → List ℕ → List ℕ

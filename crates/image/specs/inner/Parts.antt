@@ -4,8 +4,7 @@ use Prim.Native.Nat.{ℕ, _+_, _-_, _*_, _^_, _≤_, _<_}
 use mathlib.Core.List.{List, _∷_, _++_}
 use mathlib.Core.Path.{_≡_}
 use lib.ListN.{length, take, drop}
-use Rattle.bits.specs.Bits.{bits}
-use Rattle.bits.specs.inner.Written.{total}
+use Rattle.bits.specs.Bits.{bits, total}
 use Rattle.height.specs.Words.{heightSize}
 use Rattle.tables.specs.Cell.{count}
 use Rattle.tables.specs.Records.{cellWords}

@@ -4,7 +4,8 @@ use native.Mathlib.Nat.{mul-le-mul}
 use native.Mathlib.Omega.{arith}
 use mathlib.Core.Path.{ap}
 use borrow.Author.Needs.{needs}
-use Rattle.image.specs.Widths.{heightWidth, nodeWidth}
+use Rattle.image.specs.Widths.{nodeWidth}
+use Rattle.image.proofs.FieldPlaces.{height-end}
 use Rattle.image.proofs.widths.node.Statement.{statement}
 use Rattle.image.proofs.widths.node.Tie as tie
 
@@ -12,12 +13,14 @@ height-requires : tie.Need-height-requires
 height-requires c κs = search needs
 
 mul-result : tie.Need-mul-result
-unfolding heightWidth
-mul-result c = let narrow : c .height .result ≤ 335 = omega arith in omega (arith, mul-le-mul narrow (c .before .pre))
+mul-result c =
+    let narrow : c .height .result ≤ 335 = omega (arith, height-end (c .before .args .depth)) in
+    omega (arith, mul-le-mul narrow (c .before .pre))
 
 add-result : tie.Need-add-result
-unfolding heightWidth
-add-result c = let narrow : c .height .result ≤ 335 = omega arith in omega (arith, mul-le-mul narrow (c .before .pre))
+add-result c =
+    let narrow : c .height .result ≤ 335 = omega (arith, height-end (c .before .args .depth)) in
+    omega (arith, mul-le-mul narrow (c .before .pre))
 
 returns : tie.Need-returns
 unfolding nodeWidth

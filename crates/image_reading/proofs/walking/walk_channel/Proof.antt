@@ -12,6 +12,9 @@ returns c = own-channel _ _ _ _ _ (c .if1 .taken)
 add-if2 : tie.Need-add-if2
 add-if2 c = search needs
 
+add-if2-2 : tie.Need-add-if2-2
+add-if2-2 c = search needs
+
 returns-2 : tie.Need-returns-2
 returns-2 c =
     let s = c .before .before .before in
@@ -71,6 +74,7 @@ walk-channel-spec =
     (tie.spec
     returns
     add-if2
+    add-if2-2
     returns-2
     get-requires
     cast-c
