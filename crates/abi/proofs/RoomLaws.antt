@@ -15,7 +15,7 @@ use Rattle.drawing.specs.Drawing.{drawing}
 use Rattle.drawing.proofs.Longest.{drawing-fits}
 use Rattle.image.specs.Image.{image}
 use Rattle.image.specs.Widths.{nodeWidth}
-use Rattle.image.proofs.FieldPlaces.{height-ends, message-ends}
+use Rattle.image.proofs.FieldPlaces.{height-96, message-128}
 use Rattle.image_snapshot.specs.Save.{saveOn}
 use Rattle.image_writing.specs.inner.Words.{cellBitsAt, cellsFromBits, cellsBits}
 use Rattle.image_writing.proofs.ImageLaws.{depth-16, counts, length-image}
@@ -67,7 +67,7 @@ module _ (n : ℕ) (t : Tables) (fit : TablesFit n t) where
           let c : ℕ = count (channelOf n u v (t .channels)) in
           omega (
             arith,
-            rw message-ends at (length-cell 16 n (t .channels) u v c depth-16 a b (fit .size .channels) (counts n t fit) refl e),
+            rw message-128 at (length-cell 16 n (t .channels) u v c depth-16 a b (fit .size .channels) (counts n t fit) refl e),
             fit .cells u v a b .few,
           )
 
@@ -115,7 +115,7 @@ whole-channels n m e =
 
 pub longest : imageLength 16 ≡ 34044
 unfolding imageLength nodeWidth
-longest = rw (height-ends, message-ends)
+longest = rw (height-96, message-128)
 
 module _ (n : ℕ) (t : Tables) where
   length-le : TablesFit n t → length (image n (load n t)) ≤ imageLength n
@@ -123,7 +123,7 @@ module _ (n : ℕ) (t : Tables) where
   length-le fit =
       let cells = cells-le n t fit in
       let size = fit .size in
-      rw (le-leb 1 n (size .low), le-leb n 16 (size .few), length-image n t fit, height-ends, message-ends)
+      rw (le-leb 1 n (size .low), le-leb n 16 (size .few), length-image n t fit, height-96, message-128)
       (bytes-le (32 + n * (64 + 96 * n)) (n * (n - 1) * 1028) (length (cellsBits 16 n (t .channels))) _ _ (whole-front n)
       (whole-channels n (n - 1) (omega (arith, size .low))) (omega (arith, cells, mul-assoc n (n - 1) 1028)))
 

@@ -40,21 +40,25 @@ unfolding messageWidth fieldPlace total
 message-end d = omega arith
 
 -- THEOREM: document 01's ends
-pub height-ends : heightWidth depthWidth ≡ 96
-height-ends = height-end depthWidth
+pub height-96 : heightWidth depthWidth ≡ 96
+height-96 = height-end depthWidth
 
-pub message-ends : messageWidth depthWidth ≡ 128
-message-ends = message-end depthWidth
+pub message-128 : messageWidth depthWidth ≡ 128
+message-128 = message-end depthWidth
 
 -- and its places: tau, oid, r, delta, election time, lid, id, the stamp, and the message's end
 pub places : map (fieldPlace depthWidth) (0 ∷ 1 ∷ 2 ∷ 3 ∷ 4 ∷ 5 ∷ 6 ∷ 7 ∷ 8 ∷ []) ≡ 0 ∷ 32 ∷ 37 ∷ 38 ∷ 54 ∷ 86 ∷ 91 ∷ 96 ∷ 128 ∷ []
 unfolding fieldPlace total
 places = refl
 
--- a message is a height and then its stamp
-pub stamp-place : (d : ℕ) → fieldPlace d 7 ≡ heightWidth d
+-- seven fields are a height, eight a message; a message is a height and then its stamp
+pub height-place : (d : ℕ) → fieldPlace d 7 ≡ heightWidth d
 unfolding heightWidth
-stamp-place d = refl
+height-place d = refl
+
+pub message-place : (d : ℕ) → fieldPlace d 8 ≡ messageWidth d
+unfolding messageWidth
+message-place d = refl
 
 pub message-wider : (d : ℕ) → messageWidth d ≡ heightWidth d + 32
 unfolding messageWidth heightWidth

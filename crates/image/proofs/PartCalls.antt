@@ -76,7 +76,8 @@ cell-put d cell xs x₁ x₂ at s h i p q =
     (q ∙ ap (λ (ws : List ℕ). written x₁ (at + 4) (recordsBits d 8 (count cell) ws)) (rest-is 1 cell)) room
 
 -- a channel without messages is its count alone
-pub cell-empty : (d : ℕ) (cell xs : List ℕ) (at : ℕ) {x : List ℕ} → count cell ≡ 0 → x ≡ written xs at (bits 4 (count cell)) → x ≡ written xs at (cellBits d cell)
+pub cell-empty : (d : ℕ) (cell xs : List ℕ) (at : ℕ) {x : List ℕ} → count cell ≡ 0
+    → x ≡ written xs at (bits 4 (count cell)) → x ≡ written xs at (cellBits d cell)
 unfolding cellBits recordsBits rows
 cell-empty d cell xs at none p = p ∙ rw none (ap (written xs at) (sym (append-nil (bits 4 0))))
 

@@ -9,7 +9,7 @@ use lib.Dec.{eqb}
 use lib.ListN.{length, take, drop, replicate, length-append, length-drop, replicate-append-replicate}
 use lib.Seq.{drop-drop}
 use Rattle.basics.proofs.AllOf.{none, more}
-use Rattle.bits.specs.Bits.{bits, total}
+use Rattle.bits.specs.Bits.{bits}
 use Rattle.bits.proofs.Numbers.{Below, below-append, below-bits, length-bits}
 use Rattle.tables.specs.Cell.{count}
 use Rattle.tables.specs.Records.{Records, rowWords, slotWords, cellWords}
@@ -22,8 +22,9 @@ use Rattle.tables.proofs.RowsMore.{rows-more, rows-same, length-rows, row-first
 use Rattle.image.specs.Image.{nodeBits, messageBits}
 use Rattle.image.specs.Places.{fieldIn, nodePlace, heightFrom, messagesOf, channelFrom, channelPlace, recordsIn, heightsFrom}
 use Rattle.image.specs.inner.Parts.{recordsFrom, recordsBits, rowBits, cellBits, rowFrom, cellFrom}
-use Rattle.image.specs.Widths.{recordBits, recordOf, widthsOf, heightWidth, messageWidth, nodeWidth}
-use Rattle.image.proofs.RecordLaws.{total-height, total-message, length-record, below-record, length-record-bits}
+use Rattle.image.specs.Widths.{fieldPlace, recordBits, recordOf, heightWidth, messageWidth, nodeWidth}
+use Rattle.image.proofs.FieldPlaces.{height-place, message-place}
+use Rattle.image.proofs.RecordLaws.{length-record, below-record, length-record-bits}
 use Rattle.image.proofs.RowsMore.{below-rows}
 
 -- ---- n records of m words each, end to end
@@ -38,9 +39,9 @@ pub below-records-bits : (d m n : ℕ) (ws : List ℕ) → Below 2 (recordsBits 
 unfolding recordsBits
 below-records-bits d m n ws = below-rows 2 n (λ v. recordBits d (rowAt m (v - 1) ws)) (omega arith) (λ v. below-record d (rowAt m (v - 1) ws))
 
-pub length-records-bits : (d m n : ℕ) (ws : List ℕ) → m ≤ 8 → n * m ≤ length ws → length (recordsBits d m n ws) ≡ n * total (take m (widthsOf d))
+pub length-records-bits : (d m n : ℕ) (ws : List ℕ) → m ≤ 8 → n * m ≤ length ws → length (recordsBits d m n ws) ≡ n * fieldPlace d m
 unfolding recordsBits
-length-records-bits d m n ws h k = length-rows n (total (take m (widthsOf d))) (λ v. recordBits d (rowAt m (v - 1) ws))
+length-records-bits d m n ws h k = length-rows n (fieldPlace d m) (λ v. recordBits d (rowAt m (v - 1) ws))
     (λ i l. let z : suc i - 1 ≡ i = omega arith in rw z (length-record-bits d m h (rowAt m i ws) (length-row-at m n i ws k l)))
 
 pub records-bits-more : (d m n : ℕ) (ws : List ℕ) → recordsBits d m (suc n) ws ≡ recordsBits d m n ws ++ recordBits d (rowAt m n ws)
@@ -61,7 +62,7 @@ row-bits d n r u h =
     (λ i l. let z : suc i - 1 ≡ i = omega arith in ap (recordBits d) (rw z (rows-at 7 n (r .height u) h i l))))
 
 pub length-heights-bits : (d n : ℕ) (ws : List ℕ) → n * 7 ≤ length ws → length (recordsBits d 7 n ws) ≡ n * heightWidth d
-length-heights-bits d n ws h = length-records-bits d 7 n ws (omega arith) h ∙ ap (λ (w : ℕ). n * w) (total-height d)
+length-heights-bits d n ws h = length-records-bits d 7 n ws (omega arith) h ∙ ap (λ (w : ℕ). n * w) (height-place d)
 
 pub length-row-bits : (d n : ℕ) (row : List ℕ) → length row ≡ width n → length (rowBits d n row) ≡ nodeWidth d n
 unfolding rowBits nodeWidth
@@ -100,7 +101,7 @@ unfolding cellBits cellWords recordsBits
 cell-bits d ms h e = ap (λ (t : List ℕ). bits 4 (length ms) ++ t) (slots-bits d 8 ms h e)
 
 pub length-messages-bits : (d c : ℕ) (ws : List ℕ) → c * 8 ≤ length ws → length (recordsBits d 8 c ws) ≡ c * messageWidth d
-length-messages-bits d c ws h = length-records-bits d 8 c ws (omega arith) h ∙ ap (λ (w : ℕ). c * w) (total-message d)
+length-messages-bits d c ws h = length-records-bits d 8 c ws (omega arith) h ∙ ap (λ (w : ℕ). c * w) (message-place d)
 
 pub length-cell-bits : (d : ℕ) (cell : List ℕ) → length cell ≡ 65 → count cell ≤ 8 → length (cellBits d cell) ≡ 4 + count cell * messageWidth d
 unfolding cellBits

@@ -18,14 +18,15 @@ use Rattle.tables.proofs.RowsLaws.{row-fits, product-le, part-row}
 use Rattle.image.specs.Places.{heightFrom, messagesOf, heightsFrom}
 use Rattle.image.specs.inner.Parts.{recordsFrom, Inside, Depth, RecordRun, recordsBits}
 use Rattle.image.specs.Widths.{widthsOf, recordBits, recordOf, heightWidth, messageWidth, nodeWidth}
+use Rattle.image.proofs.FieldPlaces.{height-place, message-place}
 use Rattle.image.proofs.PartLaws.{length-records-from, records-from-more, slots-run}
 use Rattle.image.proofs.PartLaws.{length-row-at, below-records-bits, length-records-bits, records-bits-more}
-use Rattle.image.proofs.RecordLaws.{total-height, total-message, room, length-record-bits}
+use Rattle.image.proofs.RecordLaws.{room, length-record-bits}
 
 pub heights : {d n : ℕ} {xs ws : List ℕ} {at : ℕ} → Depth d × (n ≤ 16) × (length ws ≡ n * 7) × Inside xs at (n * heightWidth d)
     → RecordRun d 7 (heightWidth d) n xs ws at
 heights {d} h =
-    record { depth = h .0; least = omega arith; most = omega arith; bits = total-height d; few = h .1; words = omega arith; inside = h .3 }
+    record { depth = h .0; least = omega arith; most = omega arith; bits = height-place d; few = h .1; words = omega arith; inside = h .3 }
 
 -- the heights behind the clock and the sets
 pub behind-sets : (d n : ℕ) {xs : List ℕ} {at : ℕ} → Inside xs at (nodeWidth d n) → Inside xs (at + 64) (n * heightWidth d)
@@ -42,7 +43,7 @@ node-heights {d} {n} h = heights (h .0, h .1, h .2, behind-sets d n (h .3))
 pub messages : {d c : ℕ} {xs ws : List ℕ} {at : ℕ} → Depth d × (c ≤ 8) × (length ws ≡ 64) × Inside xs at (c * messageWidth d)
     → RecordRun d 8 (messageWidth d) c xs ws at
 messages {d} h =
-    record { depth = h .0; least = omega arith; most = omega arith; bits = total-message d; few = omega arith; words = omega arith; inside = h .3 }
+    record { depth = h .0; least = omega arith; most = omega arith; bits = message-place d; few = omega arith; words = omega arith; inside = h .3 }
 
 -- k of n records are put: bytes and place after them
 pub record Putting (d m w n : ℕ) (ws start : List ℕ) (at place k : ℕ) (xs : List ℕ) : Type 0 where

@@ -18,6 +18,7 @@ use Rattle.bits.proofs.Numbers.{Below, bits-cong, below-nil, below-cons, below-
 use Rattle.image.specs.Places.{fieldIn}
 use Rattle.image.specs.Widths.{widthsOf, fieldPlace, extendedOf, recordBits, recordOf, heightWidth, messageWidth}
 use Rattle.image.proofs.FieldInLaws.{field-in-lt}
+use Rattle.image.proofs.FieldPlaces.{height-place, message-place}
 
 -- a word that w bits in two's complement hold
 abbrev pub Holds : ℕ → ℕ → Type 0
@@ -79,14 +80,6 @@ length-widths d k h = simp length-take (omega arith)
 pub depth-width : (d k : ℕ) → 4 ≤ k → getD (take k (widthsOf d)) 3 0 ≡ d
 depth-width d k h = getD-take k (widthsOf d) 3 0 h
 
-pub total-height : (d : ℕ) → total (take 7 (widthsOf d)) ≡ heightWidth d
-unfolding heightWidth fieldPlace
-total-height d = refl
-
-pub total-message : (d : ℕ) → total (take 8 (widthsOf d)) ≡ messageWidth d
-unfolding messageWidth fieldPlace
-total-message d = refl
-
 -- no field is wider than a word
 pub widths-narrow : (d k : ℕ) → d ≤ 32 → Below 33 (take k (widthsOf d))
 widths-narrow d k h =
@@ -97,8 +90,9 @@ widths-narrow d k h =
     (c 32 5 (omega arith) (c 5 6 (omega arith) (c 5 7 (omega arith) (c 32 8 (omega arith) (below-nil 33 (omega arith))))))))))
 
 -- a record of m words, which take w bits, has room where w bits stand inside the bytes
-pub room : (xs : List ℕ) (at d m w : ℕ) → d ≤ 32 → total (take m (widthsOf d)) ≡ w → at + w < 2 ^ 32 → at + w ≤ 8 * length xs
+pub room : (xs : List ℕ) (at d m w : ℕ) → d ≤ 32 → fieldPlace d m ≡ w → at + w < 2 ^ 32 → at + w ≤ 8 * length xs
     → RoomFor xs at (take m (widthsOf d))
+unfolding fieldPlace
 room xs at d m w h e s i = record {
   narrow = λ k. omega (arith, widths-narrow d m h k);
   small = omega arith;
@@ -139,16 +133,16 @@ length-record d k h bs =
     let g : List ℕ = gathered (take k (widthsOf d)) bs in
     length-set g 3 (extendedOf d (getD g 3 0)) ∙ length-gathered (take k (widthsOf d)) bs ∙ length-widths d k h
 
-pub length-record-bits : (d k : ℕ) → k ≤ 8 → (us : List ℕ) → length us ≡ k → length (recordBits d us) ≡ total (take k (widthsOf d))
-unfolding recordBits
+pub length-record-bits : (d k : ℕ) → k ≤ 8 → (us : List ℕ) → length us ≡ k → length (recordBits d us) ≡ fieldPlace d k
+unfolding recordBits fieldPlace
 length-record-bits d k h us q =
-    length-spread (take (length us) (widthsOf d)) us (rw q (length-widths d k h)) ∙ ap (λ (m : ℕ). total (take m (widthsOf d))) q
+    length-spread (take (length us) (widthsOf d)) us (rw q (length-widths d k h)) ∙ ap (fieldPlace d) q
 
 pub length-height : (d : ℕ) (ws : List ℕ) → length ws ≡ 7 → length (recordBits d ws) ≡ heightWidth d
-length-height d ws e = length-record-bits d 7 (omega arith) ws e ∙ total-height d
+length-height d ws e = length-record-bits d 7 (omega arith) ws e ∙ height-place d
 
 pub length-message : (d : ℕ) (ws : List ℕ) → length ws ≡ 8 → length (recordBits d ws) ≡ messageWidth d
-length-message d ws e = length-record-bits d 8 (omega arith) ws e ∙ total-message d
+length-message d ws e = length-record-bits d 8 (omega arith) ws e ∙ message-place d
 
 pub below-record : (d : ℕ) (us : List ℕ) → Below 2 (recordBits d us)
 unfolding recordBits
@@ -178,9 +172,8 @@ module _ (d n : ℕ) (h : 1 ≤ d) (k : d ≤ 32) (four : 4 ≤ n) (eight : n �
       ∙ set-getD vs 3 0
 
   -- what was got is put
-  pub bits-of-record : (bs : List ℕ) → Below 2 bs → total (take n (widthsOf d)) ≤ length bs
-      → recordBits d (recordOf d n bs) ≡ take (total (take n (widthsOf d))) bs
-  unfolding recordBits recordOf
+  pub bits-of-record : (bs : List ℕ) → Below 2 bs → fieldPlace d n ≤ length bs → recordBits d (recordOf d n bs) ≡ take (fieldPlace d n) bs
+  unfolding recordBits recordOf fieldPlace
   bits-of-record bs b r =
       let ws : List ℕ = take n (widthsOf d) in
       let g : List ℕ = gathered ws bs in

@@ -14,9 +14,9 @@ use Rattle.bits.specs.inner.Written.{written, RoomFor}
 use Rattle.bits.proofs.Bytes.{written-written}
 use Rattle.bits.proofs.Fields.{below-spread, length-spread, length-gathered, spread-more, gathered-more}
 use Rattle.bits.proofs.Numbers.{length-bits}
-use Rattle.image.specs.Widths.{widthsOf, extendedOf, recordBits, recordOf, heightWidth}
-use Rattle.image.proofs.FieldPlaces.{message-wider}
-use Rattle.image.proofs.RecordLaws.{length-widths, depth-width, total-height, total-message, room}
+use Rattle.image.specs.Widths.{widthsOf, fieldPlace, extendedOf, recordBits, recordOf, heightWidth}
+use Rattle.image.proofs.FieldPlaces.{height-place, message-place, message-wider}
+use Rattle.image.proofs.RecordLaws.{length-widths, depth-width, room}
 
 -- ---- room
 
@@ -27,21 +27,23 @@ seven-or-eight n a b = go (decLt n 8)
     go (yes l) = inl (omega arith)
     go (no g) = inr (omega arith)
 
-record-total : (d n : ℕ) → 7 ≤ n → n ≤ 8 → heightWidth d ≤ total (take n (widthsOf d))
+record-total : (d n : ℕ) → 7 ≤ n → n ≤ 8 → heightWidth d ≤ fieldPlace d n
 record-total d n a b =
-    ⊎-elim (λ e. rw e (omega (arith, total-height d))) (λ e. rw e (omega (arith, total-message d, message-wider d))) (seven-or-eight n a b)
+    ⊎-elim (λ e. rw e (omega (arith, height-place d))) (λ e. rw e (omega (arith, message-place d, message-wider d))) (seven-or-eight n a b)
 
 pub height-room : (xs : List ℕ) (at d n : ℕ) → 7 ≤ n → n ≤ 8 → RoomFor xs at (take n (widthsOf d)) → RoomFor xs at (take 7 (widthsOf d))
+unfolding fieldPlace
 height-room xs at d n a b r =
     let h : d ≤ 32 = omega (arith, depth-width d n (omega arith), r .narrow 3) in
     let t = record-total d n a b in
-    room xs at d 7 (heightWidth d) h (total-height d) (omega (arith, r .small)) (omega (arith, r .inside))
+    room xs at d 7 (heightWidth d) h (height-place d) (omega (arith, r .small)) (omega (arith, r .inside))
 
 -- a message's stamp stands behind its height
 pub stamp-room : (xs : List ℕ) (at d n : ℕ) → n ≡ 8 → RoomFor xs at (take n (widthsOf d))
     → (at + heightWidth d < 2 ^ 32) × (at + heightWidth d + 32 ≤ 8 * length xs)
+unfolding fieldPlace
 stamp-room xs at d n e r =
-    let t : total (take n (widthsOf d)) ≡ heightWidth d + 32 = rw e (total-message d ∙ message-wider d) in
+    let t : fieldPlace d n ≡ heightWidth d + 32 = rw e (message-place d ∙ message-wider d) in
     (omega (arith, r .small), omega (arith, r .inside))
 
 -- and is as wide as the last field
@@ -51,9 +53,10 @@ stamp-wide d w e = ap (λ (l : List ℕ). getD l 7 0) e
 -- ---- putting
 
 length-seven : (d : ℕ) (ws : List ℕ) → 7 ≤ length ws → length (spread (take 7 (widthsOf d)) (take 7 ws)) ≡ heightWidth d
+unfolding fieldPlace
 length-seven d ws h =
     let e : length (take 7 (widthsOf d)) ≡ length (take 7 ws) = length-widths d 7 (omega arith) ∙ sym (simp length-take (omega arith)) in
-    length-spread (take 7 (widthsOf d)) (take 7 ws) e ∙ total-height d
+    length-spread (take 7 (widthsOf d)) (take 7 ws) e ∙ height-place d
 
 pub height-put : (xs : List ℕ) (at d : ℕ) (ws : List ℕ) → length ws ≡ 7
     → written xs at (spread (take 7 (widthsOf d)) (take 7 ws)) ≡ written xs at (recordBits d ws)
@@ -98,7 +101,7 @@ height-got d bs ws e =
 pub message-got : (d : ℕ) (bs ws : List ℕ) (y : ℕ) → length ws ≡ 8 → y ≡ number (take 32 (drop (heightWidth d) bs))
     → set (set (gathered (take 7 (widthsOf d)) bs ++ drop 7 ws) 3 (extendedOf d (getD (gathered (take 7 (widthsOf d)) bs) 3 0))) 7 y
     ≡ recordOf d (length ws) bs
-unfolding recordOf
+unfolding recordOf fieldPlace
 message-got d bs ws y e ey =
     let g : List ℕ = gathered (take 7 (widthsOf d)) bs in
     let x : ℕ = extendedOf d (getD g 3 0) in
@@ -107,7 +110,7 @@ message-got d bs ws y e ey =
     let last : drop 7 ws ≡ getD ws 7 0 ∷ [] = drop-cons ws 7 0 (omega arith) ∙ ap (λ (t : List ℕ). getD ws 7 0 ∷ t) (drop-of-length-le ws (le-of-eq e)) in
     let all : gathered (take 8 (widthsOf d)) bs ≡ g ++ (y ∷ []) =
     gathered-more (widthsOf d) bs 7 (omega arith)
-    ∙ ap (λ (k : ℕ). g ++ (number (take 32 (drop k bs)) ∷ [])) (total-height d) ∙ ap (λ (k : ℕ). g ++ (k ∷ [])) (sym ey) in
+    ∙ ap (λ (k : ℕ). g ++ (number (take 32 (drop k bs)) ∷ [])) (height-place d) ∙ ap (λ (k : ℕ). g ++ (k ∷ [])) (sym ey) in
     ap (λ (t : List ℕ). set (set (g ++ t) 3 x) 7 y) last
     ∙ ap (λ (t : List ℕ). set t 7 y) (set-append-left g (getD ws 7 0 ∷ []) 3 x (omega arith))
     ∙ set-at (set g 3 x) (getD ws 7 0) [] y 7 m

@@ -10,7 +10,7 @@ use lib.Dec.{eqb}
 use lib.ListN.{length, take, drop, length-drop, take-append-drop}
 use lib.Seq.{drop-drop}
 use Rattle.basics.proofs.Tests.{Choice, yes!, no!, choice}
-use Rattle.bits.specs.Bits.{bits, total}
+use Rattle.bits.specs.Bits.{bits}
 use Rattle.bits.proofs.Numbers.{Below, below-drop}
 use Rattle.tables.specs.Records.{Records}
 use Rattle.tables.specs.Rows.{rows}
@@ -18,20 +18,21 @@ use Rattle.image.specs.Image.{nodeBits, messageBits, channelBits, channe
 use Rattle.image.specs.Places.{channelsPlace, channelsFromPlace, channelPlace, recordsIn}
 use Rattle.image.specs.inner.Parts.{imageEnd}
 use Rattle.image.specs.Places.{fieldIn, nodePlace, heightFrom, messagesOf, channelFrom, walked, channelNext, channelsNext}
-use Rattle.image.specs.Widths.{widthsOf, recordBits, recordOf, heightWidth, messageWidth, nodeWidth}
+use Rattle.image.specs.Widths.{fieldPlace, recordBits, recordOf, heightWidth, messageWidth, nodeWidth}
 use Rattle.image.proofs.ChannelLaws.{length-messages-of, channel-same, channel-other, next-same, next-other}
 use Rattle.image.proofs.FieldInLaws.{field-tail}
+use Rattle.image.proofs.FieldPlaces.{height-place, message-place}
 use Rattle.image.proofs.PlaceLaws.{node-in, start-in, channel-passed-in}
-use Rattle.image.proofs.RecordLaws.{total-height, total-message, bits-of-record}
+use Rattle.image.proofs.RecordLaws.{bits-of-record}
 use Rattle.image.proofs.WalkLaws.{walk-write, walked-add}
 
 module _ (d : ℕ) (one : 1 ≤ d) (wide : d ≤ 32) (l : List ℕ) (bl : Below 2 l) where
   -- ---- one record, and messages
 
-  pub record-tail : (m w : ℕ) → 4 ≤ m → m ≤ 8 → total (take m (widthsOf d)) ≡ w → (q : ℕ) → q + w ≤ length l
+  pub record-tail : (m w : ℕ) → 4 ≤ m → m ≤ 8 → fieldPlace d m ≡ w → (q : ℕ) → q + w ≤ length l
       → drop q l ≡ recordBits d (recordOf d m (drop q l)) ++ drop (q + w) l
   record-tail m w a b e q h =
-      let room : total (take m (widthsOf d)) ≤ length (drop q l) = simp length-drop (omega arith) in
+      let room : fieldPlace d m ≤ length (drop q l) = simp length-drop (omega arith) in
       let back : recordBits d (recordOf d m (drop q l)) ≡ take w (drop q l) =
       bits-of-record d m one wide a b (drop q l) (below-drop 2 q l bl) room ∙ ap (λ (x : ℕ). take x (drop q l)) e in
       sym (take-append-drop w (drop q l)) ∙ sym (ap₂ (λ (x y : List ℕ). x ++ y) back (sym (drop-drop w q l)))
@@ -47,7 +48,7 @@ module _ (d : ℕ) (one : 1 ≤ d) (wide : d ≤ 32) (l : List ℕ) (bl : Below 
       let m : List ℕ = recordBits d (recordOf d 8 (drop q l)) in
       let z : suc c * w ≡ c * w + w = suc-mul c w in
       let e : q + w + c * w ≡ q + suc c * w = omega arith in
-      record-tail 8 w (omega arith) (omega arith) (total-message d) q (omega arith)
+      record-tail 8 w (omega arith) (omega arith) (message-place d) q (omega arith)
       ∙ ap (λ (x : List ℕ). m ++ x) (messages-tail c (q + w) (omega arith))
       ∙ sym (append-assoc m (messageBits d (messagesOf d c (drop (q + w) l))) (drop (q + w + c * w) l))
       ∙ ap₂ (λ (x : List ℕ) (y : ℕ). (m ++ messageBits d (messagesOf d c x)) ++ drop y l) (sym (drop-drop w q l)) e
@@ -100,7 +101,7 @@ module _ (d : ℕ) (one : 1 ≤ d) (wide : d ≤ 32) (l : List ℕ) (bl : Below 
         let s : suc j * w ≤ n * w = mul-le-mul-right w c in
         let e : r .height u (suc j) ≡ recordOf d 7 (drop p l) =
         eh j c ∙ ap (λ (x : ℕ). recordOf d 7 (drop (q + 64 + x * w) l)) y ∙ ap (λ (x : ℕ). recordOf d 7 (drop x l)) (sym (a j)) in
-        record-tail 7 w (omega arith) (omega arith) (total-height d) p (omega (arith, a j, suc-mul j w))
+        record-tail 7 w (omega arith) (omega arith) (height-place d) p (omega (arith, a j, suc-mul j w))
         ∙ ap (λ (x : List ℕ). recordBits d x ++ drop (p + w) l) (sym e))
         ∙ ap (λ (x : ℕ). hs ++ drop x l) f
 

@@ -15,7 +15,7 @@ use Rattle.image.specs.Widths.{recordBits, headerLength, depthWidth}
 unfoldable pub headerBits : ℕ → ℕ → ℕ → List ℕ
 headerBits version h n = bits 4 version ++ (bits 12 h ++ (bits 5 n ++ bits (h - 21) 0))
 
--- node u: clock 32, N 16, F 16, then n heights by node
+-- node u: 32 bits of clock, 16 each of N and F; behind them its height for every node
 unfoldable pub nodeBits : ℕ → ℕ → Records → ℕ → List ℕ
 nodeBits d n r u =
     bits 32 (r .clock u)

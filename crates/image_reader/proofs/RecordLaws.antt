@@ -56,7 +56,8 @@ pub rest-inside : (n : ℕ) (xs : List ℕ) (at : ℕ) → n ≤ 16 → at + nod
     → Inside (take (length xs - at / 8) (drop (at / 8) xs)) (at % 8) (nodeWidth 16 n)
 rest-inside n xs at few h = record { small = omega (arith, node-small 16 n (omega arith) few); inside = omega (arith, h, rest-length (at / 8) xs) }
 
-pub rest-read : (n : ℕ) (xs : List ℕ) (at : ℕ) {s : Outcome (Answered NodeRecord) (List ℕ)} → s ≡ recordIn n (unpacked (take (length xs - at / 8) (drop (at / 8) xs))) (at % 8)
+pub rest-read : (n : ℕ) (xs : List ℕ) (at : ℕ) {s : Outcome (Answered NodeRecord) (List ℕ)}
+    → s ≡ recordIn n (unpacked (take (length xs - at / 8) (drop (at / 8) xs))) (at % 8)
     → s ≡ recordIn n (unpacked xs) at
 rest-read n xs at h =
     let a : 8 * (at / 8) + at % 8 ≡ at = omega arith in

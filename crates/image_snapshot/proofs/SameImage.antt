@@ -8,10 +8,15 @@ use Rattle.bits.specs.Bits.{unpacked}
 use Rattle.image.specs.Image.{image}
 use Rattle.image.specs.Places.{tablesIn}
 use Rattle.image_reading.specs.Header.{fieldsOf}
+use Rattle.lent.specs.Check.{checkOn}
+use Rattle.lent.proofs.CheckLaws.{sound-sized}
+use Rattle.lent.proofs.SoundLoads.{sound-loads, load-inside}
+use Rattle.lent.proofs.SoundTables.{Words, sound-fits as tables-fit}
 use Rattle.protocol.specs.Holds.{sound}
 use Rattle.protocol.specs.Network.{Network, restrict}
 use Rattle.protocol.proofs.SoundStep.{sound-fits}
 use Rattle.tables.specs.Load.{load, tablesOf}
+use Rattle.tables.specs.Tables.{Tables}
 use Rattle.tables.proofs.Back.{storable, load-back}
 use Rattle.image.specs.Widths.{headerLength, depthWidth}
 use Rattle.image_snapshot.proofs.ImageLaws.{image-fields, image-tables}
@@ -22,6 +27,17 @@ pub record Savable (n : ℕ) (p : Network) : Type 0 where
   pub few : n ≤ 16
   pub holds : sound n p ≡ true
   pub inside : restrict n p ≡ p
+
+-- there are such: every set of tables that passes the check holds one
+pub passing-savable : (n : ℕ) (t : Tables) → Words t → checkOn n t .number ≡ 0 → Savable n (load n t)
+passing-savable n t words passes =
+    let size = sound-sized n t passes in
+    record {
+      low = size .low;
+      few = size .few;
+      holds = sound-loads n t words passes;
+      inside = load-inside n t (tables-fit n t words passes);
+    }
 
 pub same-count : (n m : ℕ) (p q : Network) → Savable n p → Savable m q → image n p ≡ image m q → n ≡ m
 same-count n m p q a b e =

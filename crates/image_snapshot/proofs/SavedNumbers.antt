@@ -10,7 +10,7 @@ use Rattle.height.specs.Words.{heightSize, heightWords}
 use Rattle.image.specs.Image.{imageOf, image}
 use Rattle.image.specs.Places.{fieldIn, nodePlace, channelPlace}
 use Rattle.image.specs.Widths.{fieldPlace, headerLength, depthWidth, nodeWidth}
-use Rattle.image.proofs.FieldPlaces.{fieldWidth, height-ends, message-ends}
+use Rattle.image.proofs.FieldPlaces.{fieldWidth, height-96, message-128}
 use Rattle.image.proofs.NetworkFits.{network-fit}
 use Rattle.image.proofs.PlacedFields.{wordOf}
 use Rattle.image.proofs.PlacedInImage.{height-there, message-there}
@@ -34,7 +34,7 @@ module _ (n : ℕ) (p : Network) (s : Savable n p) where
   height-saved u v k a b c =
       let e : suc (u - 1) ≡ u = omega (arith, a .low) in
       let f : suc (v - 1) ≡ v = omega (arith, b .low) in
-      rw (e, f, height-ends) at
+      rw (e, f, height-96) at
       (height-there 1 32 16 n (omega arith) (omega arith) (omega arith) (recordsOf n p) fit (u - 1) (v - 1) k
       (omega (arith, a .low, a .high)) (omega (arith, b .low, b .high)) c)
 
@@ -47,7 +47,7 @@ module _ (n : ℕ) (p : Network) (s : Savable n p) where
   message-saved u v m k a l c =
       let e : u ≡ suc (u - 1) = omega (arith, a .one .low) in
       let f : v ≡ suc (v - 1) = omega (arith, a .other .low) in
-      rw (← e, ← f, message-ends) at
+      rw (← e, ← f, message-128) at
       (message-there 1 32 16 n (omega arith) (omega arith) (omega arith) (recordsOf n p) fit (u - 1) (v - 1) m k
       (omega (arith, a .one .low, a .one .high)) (omega (arith, a .other .low, a .other .high)) (λ s. a .differ (e ∙ s ∙ sym f))
       (rw (← e, ← f, length-map (p .channel u v) messageWords) l) c)

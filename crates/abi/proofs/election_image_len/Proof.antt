@@ -2,7 +2,7 @@
 use native.Mathlib.Omega.{arith}
 use mathlib.Core.Path.{sym, _∙_}
 use Rattle.image.proofs.Bounds.{nodes-small}
-use Rattle.image.proofs.FieldPlaces.{message-ends}
+use Rattle.image.proofs.FieldPlaces.{message-128}
 use Rattle.abi.specs.Sizes.{imageLength}
 use Rattle.abi.proofs.SizeLaws.{size-of, pairs-le}
 use borrow.Author.Needs.{needs}
@@ -33,15 +33,15 @@ mul-channels c =
     omega (arith, pairs-le n (size-of n (c .before .before .before .is-size .ensures) (c .before .before .if1 .taken)))
 
 mul-channels-2 : tie.Need-mul-channels-2
-mul-channels-2 c = omega (arith, c .before .message .ensures, message-ends)
+mul-channels-2 c = omega (arith, c .before .message .ensures, message-128)
 
 add-channels : tie.Need-add-channels
-add-channels c = omega (arith, c .before .message .ensures, message-ends)
+add-channels c = omega (arith, c .before .message .ensures, message-128)
 
 mul-channels-3 : tie.Need-mul-channels-3
 mul-channels-3 c =
     let n = c .before .before .before .before .args .n in
-    rw (c .before .message .ensures, message-ends) (omega (arith, pairs-le n (size-of n (c .before .before .before .is-size .ensures) (c .before .before .if1 .taken))))
+    rw (c .before .message .ensures, message-128) (omega (arith, pairs-le n (size-of n (c .before .before .before .is-size .ensures) (c .before .before .if1 .taken))))
 
 add-result : tie.Need-add-result
 add-result c =
@@ -53,7 +53,7 @@ add-result-2 : tie.Need-add-result-2
 add-result-2 c =
     let n = c .before .before .before .before .args .n in
     let size = size-of n (c .before .before .before .is-size .ensures) (c .before .before .if1 .taken) in
-    rw (c .node .ensures, c .before .message .ensures, message-ends) (omega (arith, nodes-small 16 n (omega arith) (size .high), pairs-le n size))
+    rw (c .node .ensures, c .before .message .ensures, message-128) (omega (arith, nodes-small 16 n (omega arith) (size .high), pairs-le n size))
 
 returns : tie.Need-returns
 unfolding imageLength

@@ -4,7 +4,7 @@ use Prim.Native.Nat.{ℕ, _+_, _-_, _*_, _^_, _≤_, _<_}
 use mathlib.Core.List.{List, _∷_, _++_}
 use mathlib.Core.Path.{_≡_}
 use lib.ListN.{length, take, drop}
-use Rattle.bits.specs.Bits.{bits, total}
+use Rattle.bits.specs.Bits.{bits}
 use Rattle.height.specs.Words.{heightSize}
 use Rattle.tables.specs.Cell.{count}
 use Rattle.tables.specs.Records.{cellWords}
@@ -12,7 +12,7 @@ use Rattle.tables.specs.Row.{clockIn, neighborsIn, formingIn}
 use Rattle.tables.specs.Rows.{rows, rowAt}
 use Rattle.tables.specs.Tables.{rowHead, messageSize}
 use Rattle.image.specs.Places.{fieldIn, channelFrom, heightsFrom, walked, channelsNext, channelsPlace}
-use Rattle.image.specs.Widths.{widthsOf, recordBits, recordOf}
+use Rattle.image.specs.Widths.{fieldPlace, recordBits, recordOf}
 
 -- ---- the bits of words
 
@@ -60,7 +60,7 @@ pub record RecordRun (d k w c : ℕ) (xs ws : List ℕ) (at : ℕ) : Type 0 wher
   pub depth : Depth d
   pub least : heightSize ≤ k
   pub most : k ≤ messageSize
-  pub bits : total (take k (widthsOf d)) ≡ w
+  pub bits : fieldPlace d k ≡ w
   pub few : c ≤ 16
   pub words : c * k ≤ length ws
   pub inside : Inside xs at (c * w)

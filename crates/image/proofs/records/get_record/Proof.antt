@@ -10,7 +10,7 @@ use Rattle.bits.specs.Bits.{unpacked, field, gathered}
 use Rattle.bits.proofs.Bytes.{below-unpacked}
 use Rattle.bits.proofs.Numbers.{below-drop}
 use Rattle.image.specs.Widths.{widthsOf, extendedOf}
-use Rattle.image.proofs.FieldPlaces.{height-end, stamp-place}
+use Rattle.image.proofs.FieldPlaces.{height-end, height-place}
 use Rattle.image.proofs.RecordLaws.{length-widths, depth-width, gathered-lt}
 use Rattle.image.proofs.StampLaws.{height-room, stamp-room, stamp-wide, seven-got, length-kept, depth-got, height-got, message-got, stamp-field}
 use Rattle.image.proofs.records.get_record.Statement.{statement}
@@ -72,7 +72,7 @@ place-requires c κs = omega arith
 add-place : tie.Need-add-place
 add-place c =
     let s = c .before .before .before .before .before .before .before .before .before .before .before .before in
-    omega (arith, s .pre .0 .small, c .place .ensures, stamp-place (s .args .depth), height-end (s .args .depth))
+    omega (arith, s .pre .0 .small, c .place .ensures, height-place (s .args .depth), height-end (s .args .depth))
 
 array-read-get : tie.Need-array-read-get
 array-read-get c = search needs
@@ -93,7 +93,7 @@ get-requires c κs =
     let n = length-kept (b6 .get-fields .last .1 .1 .1 .0) (a .words .now) (c .before .before .extended .result) seven (s .pre .1 .0 .0) in
     let r = stamp-room (a .bytes .now) (a .at) (a .depth) (length (a .words .now)) (sym n ∙ c .before .if1 .taken) (s .pre .0) in
     let wide = stamp-wide (a .depth) (b9 .fields .result) (b9 .fields .ensures) in
-    let h = c .place .ensures ∙ stamp-place (a .depth) in
+    let h = c .place .ensures ∙ height-place (a .depth) in
     (omega (arith, wide), (omega (arith, r .0, h), omega (arith, wide, r .1, h)))
 
 slice-write-words-2 : tie.Need-slice-write-words-2
@@ -119,7 +119,7 @@ returns c =
     ap₂ (λ (l : List ℕ) (y : ℕ). set (set (l ++ drop 7 ws) 3 y) 7 (c .get .result)) g x
     ∙ message-got (a .depth) bs ws (c .get .result) (sym n ∙ c .before .before .if1 .taken)
     (c .get .ensures
-    ∙ ap₂ (λ (w k : ℕ). field (a .bytes .now) (a .at + w) k) (c .before .place .ensures ∙ stamp-place (a .depth))
+    ∙ ap₂ (λ (w k : ℕ). field (a .bytes .now) (a .at + w) k) (c .before .place .ensures ∙ height-place (a .depth))
     (stamp-wide (a .depth) (b10 .fields .result) (b10 .fields .ensures))
     ∙ stamp-field (a .bytes .now) (a .at) (a .depth))
 

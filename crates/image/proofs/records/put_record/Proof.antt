@@ -8,7 +8,7 @@ use borrow.Author.Needs.{needs}
 use Rattle.bits.specs.Bits.{spread, bits}
 use Rattle.bits.specs.inner.Written.{written}
 use Rattle.bits.proofs.Bytes.{length-written}
-use Rattle.image.proofs.FieldPlaces.{height-end, stamp-place}
+use Rattle.image.proofs.FieldPlaces.{height-end, height-place}
 use Rattle.image.proofs.RecordLaws.{length-widths}
 use Rattle.image.proofs.StampLaws.{height-room, stamp-room, stamp-wide, height-put, message-put}
 use Rattle.image.proofs.records.put_record.Statement.{statement}
@@ -47,7 +47,7 @@ place-requires c κs = omega arith
 add-place : tie.Need-add-place
 add-place c =
     let s = c .before .before .before .before .before .before .before .before .before .before .before in
-    omega (arith, s .pre .0 .small, c .place .ensures, stamp-place (s .args .depth), height-end (s .args .depth))
+    omega (arith, s .pre .0 .small, c .place .ensures, height-place (s .args .depth), height-end (s .args .depth))
 
 array-read-put : tie.Need-array-read-put
 array-read-put c = search needs
@@ -68,7 +68,7 @@ put-requires c κs =
     let r = stamp-room (a .buf .now) (a .at) (a .depth) (length (a .words .now)) (b3 .if1 .taken) (s .pre .0) in
     let n = ap length (b6 .put-fields .ensures) ∙ length-written (a .buf .now) (a .at) (spread (take 7 (b10 .fields .result)) (take 7 (a .words .now))) in
     let wide = stamp-wide (a .depth) (b10 .fields .result) (b10 .fields .ensures) in
-    let h = c .before .before .place .ensures ∙ stamp-place (a .depth) in
+    let h = c .before .before .place .ensures ∙ height-place (a .depth) in
     (omega (arith, wide), (omega (arith, r .0, h), omega (arith, wide, r .1, n, h)))
 
 same-length : tie.Need-same-length
@@ -89,7 +89,7 @@ returns c =
     (stamp-wide (a .depth) (b13 .fields .result) (b13 .fields .ensures))
     ∙ ap₂ (λ (l : List ℕ) (w : ℕ). written l (a .at + w) (bits 32 (getD (a .words .now) 7 0)))
     (b9 .put-fields .ensures ∙ ap (λ (l : List ℕ). written (a .buf .now) (a .at) (spread (take 7 l) (take 7 (a .words .now)))) (b13 .fields .ensures))
-    (b5 .place .ensures ∙ stamp-place (a .depth))
+    (b5 .place .ensures ∙ height-place (a .depth))
     ∙ message-put (a .buf .now) (a .at) (a .depth) (a .words .now) (b6 .if1 .taken) (r .1)
 
 same-length-2 : tie.Need-same-length-2
