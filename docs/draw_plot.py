@@ -75,8 +75,8 @@ class Run:
         else:
             heard = self.waiting[other, at].pop(0)
             self.arrows.append(Arrow(other, heard.event, at, event.number, "ignored" if rule == "I" else "heard"))
+            stamp = heard.clock
             if rule != "I":
-                stamp = heard.clock
                 self.forming[at].discard(other)
                 self.linked[at].add(other)
         self.clock[at] = max(self.clock[at], stamp) + 1
@@ -94,6 +94,13 @@ class Run:
         self.leader[event.at] = leader
         self.led.append((event.number, event.at, leader))
 
+    def end(self, events, stations):
+        """What still waits at the end; leaders and clocks have to be those of the listing."""
+        for u, v in list(self.waiting):
+            self.lose(u, v, len(events) + 1, "waiting")
+        if [[k, self.leader[k], self.clock[k]] for k in sorted(self.clock)] != stations:
+            sys.exit("leaders and clocks are not those of the listing")
+
 
 class Drawing:
     def __init__(self):
@@ -105,10 +112,20 @@ class Drawing:
     def line(self, x1, y1, x2, y2, colour, width=1.0, more=""):
         self.lines.append(f'<line x1="{x1:.1f}" y1="{y1:.1f}" x2="{x2:.1f}" y2="{y2:.1f}" stroke="{colour}" stroke-width="{width}"{more}/>')
 
-    def mark(self, x, y, radius, event):
+    def mark(self, x, y, radius, event, words):
         fill, stroke = (MARKS[event.rule], "#555555") if event.code == 0 else ("#ffffff", "#cccccc")
         self.lines.append(f'<circle cx="{x:.1f}" cy="{y:.1f}" r="{radius:.1f}" fill="{fill}" stroke="{stroke}"/>')
-        self.text(x, y + radius * 0.42, round(radius * 1.2, 1), event.rule if event.code == 0 else str(event.code))
+        self.text(x, y + radius * 0.42, round(radius * 1.2, 1), words)
+
+    def write(self, width, height, legend):
+        """The whole figure to standard output, with the legend at its foot."""
+        for k, words in enumerate(legend):
+            self.text(20, height - 30 + 16 * k, 11, words, "start", "#555555")
+        print(f'<svg xmlns="http://www.w3.org/2000/svg" viewBox="0 0 {width} {height}" width="{width}" height="{height}" font-family="sans-serif">')
+        print(f'<defs><marker id="tip" viewBox="0 0 8 8" refX="8" refY="4" markerWidth="6" markerHeight="6" orient="auto">{TIP}</marker></defs>')
+        print('<rect width="100%" height="100%" fill="white"/>')
+        print("\n".join(self.lines))
+        print("</svg>")
 
 
 def colour_of(leader):
@@ -141,7 +158,7 @@ class Panel:
             if self.first <= event.number <= self.last:
                 y = self.y(event.number)
                 drawing.text(self.left + LEFT - 12, y + 3, min(self.row * 0.75, 11), str(event.number), "end", "#777777")
-                drawing.mark(self.x(event.at), y, self.radius, event)
+                drawing.mark(self.x(event.at), y, self.radius, event, event.rule if event.code == 0 else str(event.code))
                 if event.code == 0 and event.rule in NOTES:
                     leader = next(led for number, _, led in reversed(self.run.led) if number <= event.number) if event.rule in "AE" else 0
                     words = NOTES[event.rule].format(at=event.at, other=event.other, leader=leader)
@@ -181,10 +198,7 @@ def main():
     for event in events:
         if event.code == 0:
             run.take(event)
-    for (u, v) in list(run.waiting):
-        run.lose(u, v, len(events) + 1, "waiting")
-    if [[k, run.leader[k], run.clock[k]] for k in range(1, n + 1)] != stations:
-        sys.exit("leaders and clocks are not those of the listing")
+    run.end(events, stations)
 
     downs = [event.number for event in events if event.kind == "D" and event.code == 0 and event.number > 1]
     starts = [1, downs[0]] if downs else [1]
@@ -195,13 +209,7 @@ def main():
         heading = f"events {start} to {end}" + (": from the first lost link on" if downs and start == downs[0] else "")
         Panel(run, n, start, end, starts.index(start) * panel_width).draw(drawing, events, heading)
     drawing.text(width / 2, 24, 14, f"{n} stations, {len(events)} events: the run of {sys.argv[1]}, time downward")
-    for k, words in enumerate(LEGEND):
-        drawing.text(20, height - 30 + 16 * k, 11, words, "start", "#555555")
-    print(f'<svg xmlns="http://www.w3.org/2000/svg" viewBox="0 0 {width} {height}" width="{width}" height="{height}" font-family="sans-serif">')
-    print(f'<defs><marker id="tip" viewBox="0 0 8 8" refX="8" refY="4" markerWidth="6" markerHeight="6" orient="auto">{TIP}</marker></defs>')
-    print('<rect width="100%" height="100%" fill="white"/>')
-    print("\n".join(drawing.lines))
-    print("</svg>")
+    drawing.write(width, height, LEGEND)
 
 
 if __name__ == "__main__":

@@ -83,10 +83,11 @@ extern "C" {
 
 /* The version of this interface. MAJOR moves when something declared here changes its meaning or goes, MINOR when something is added (a
  * call, a number, a letter: take a number that you do not know as a refusal), PATCH with words only. A number added may refuse what was
- * carried out before: since 1.3.0 it is 18, and a logger with tables of its own sets the clocks of the other rows (WHOSE TABLES). The
- * archive has no number of its own: take both from one bin/install. */
-#define ELECTION_VERSION_MAJOR 1
-#define ELECTION_VERSION_MINOR 3
+ * carried out before: since 1.3.0 it is 18, and a logger with tables of its own sets the clocks of the other rows (WHOSE TABLES). Since
+ * 2.0.0 a message ignored (I) moves the clock past its stamp, and its stamp can give 7. The archive has no number of its own: take both
+ * from one bin/install. */
+#define ELECTION_VERSION_MAJOR 2
+#define ELECTION_VERSION_MINOR 0
 #define ELECTION_VERSION_PATCH 0
 #define ELECTION_VERSION (ELECTION_VERSION_MAJOR * 1000000 + ELECTION_VERSION_MINOR * 1000 + ELECTION_VERSION_PATCH)
 
@@ -153,7 +154,7 @@ enum {
     ELECTION_ALREADY_UP = 4,     /* up on a channel that is up */
     ELECTION_ALREADY_DOWN = 5,   /* down on a channel that is down */
     ELECTION_NO_MESSAGE = 6,     /* receipt from a channel with no message */
-    ELECTION_CLOCK_END = 7,      /* the clock would pass 4,294,967,295: it is there, or the stamp of the message is (not if ignored, I); the message stays */
+    ELECTION_CLOCK_END = 7,      /* the clock would pass 4,294,967,295: it is there, or the stamp of the message is, used or ignored; the message stays */
     ELECTION_DEPTH_END = 8,      /* by rule A or P the depth would leave -32,768 to 32,767; the message stays */
     ELECTION_CHANNEL_FULL = 9,   /* a channel to be sent on already holds 8 messages; the message received stays */
     ELECTION_IMAGE_SHORT = 10,   /* image under 4 bytes */
@@ -235,7 +236,7 @@ enum {
     ELECTION_RULE_ELECT = 'E',      /* u elected itself: alone, or its search came back from everywhere */
     ELECTION_RULE_START = 'S',      /* u lost its way to the collector and started a search */
     ELECTION_RULE_NO_CHANGE = 'Q',  /* nothing to do */
-    ELECTION_RULE_IGNORED = 'I',    /* the sender is in neither set of u: only the clock moved */
+    ELECTION_RULE_IGNORED = 'I',    /* the sender is in neither set of u: only the clock moved, past the stamp as at any receipt */
     ELECTION_RULE_REFLECT = 'F',    /* u sent the search back */
     ELECTION_RULE_PROPAGATE = 'P',  /* u took the largest level of its views, and passed the search on */
     ELECTION_RULE_ADOPT = 'A',      /* u adopted the sender's collector, which is the more recent */

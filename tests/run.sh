@@ -74,7 +74,7 @@ clippy() {
 }
 
 bench_prints() {
-    bin/bench examples/plot.txt | diff examples/plot.out -
+    bin/bench examples/plot.txt | diff examples/plot.out - && bin/bench examples/clocks.txt | diff examples/clocks.out -
 }
 
 # What a part of examples/plot.image is said to be, and the status of that.
@@ -101,17 +101,18 @@ constants_fit() {
 }
 
 drawn() {
-    python3 docs/draw_plot.py examples/plot.txt examples/plot.out | cmp docs/plot.svg - && python3 docs/draw_image.py | cmp docs/image.svg -
+    python3 docs/draw_plot.py examples/plot.txt examples/plot.out | cmp docs/plot.svg - && python3 docs/draw_image.py | cmp docs/image.svg - &&
+        python3 docs/draw_clocks.py examples/clocks.txt examples/clocks.out | cmp docs/clocks.svg -
 }
 
 step "docs/TRACEABILITY.md names what there is" bash tests/traceability.sh
 if python3 --version >"$log/step" 2>&1; then
     step "what must be believed stands apart (tests/figures.py)" python3 tests/figures.py
-    step "docs/plot.svg and docs/image.svg are what their scripts draw" drawn
+    step "docs/plot.svg, image.svg and clocks.svg are what their scripts draw" drawn
 else
     echo "tests: NOT RUN, no python3 here: what must be believed stands apart, the drawings"
 fi
-step "bin/bench prints examples/plot.out" bench_prints
+step "bin/bench prints examples/plot.out and clocks.out" bench_prints
 step "bin/image shows examples/plot.image, and refuses its parts by their numbers" image_shows
 step "bin/: arguments, files, links, devices, proving and progress (tests/commands.sh)" bash tests/commands.sh
 grep '^tests: NOT RUN' "$log/step" || true

@@ -193,7 +193,7 @@ pub enum Rule {
     StartNewRefLevel,
     /// Q: nothing to do.
     NoChange,
-    /// I: the sender is in neither set; only the clock moved.
+    /// I: the sender is in neither set; only the clock moved, past the stamp as at any receipt.
     Ignored,
     /// F: the search was sent back.
     ReflectRefLevel,

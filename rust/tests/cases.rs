@@ -57,6 +57,33 @@ fn quiet() -> Plot {
     plot
 }
 
+/// Document 02, [5]: station 2 has nobody in its sets, and its clock moves past the stamp of what it ignores.
+#[test]
+fn ignored_messages_move_the_clock() {
+    let mut plot = Plot::new(3).unwrap();
+    plot.up(1, 3).unwrap();
+    plot.up(1, 2).unwrap();
+    assert_eq!(plot.receive(1, 2).unwrap().rule, Rule::Ignored);
+    assert_eq!((clock(&plot, 1), clock(&plot, 2)), (2, 3));
+    assert_eq!(plot.receive(1, 2), Err(Refusal::NoMessage));
+    let last = u32::MAX;
+    assert_eq!(ignored_at(last - 2), (Ok(Rule::Ignored), last));
+    assert_eq!(ignored_at(last - 1), (Err(Refusal::ClockEnd), 0));
+}
+
+/// Station 1 sends at this clock; what 2 answers when it ignores that, and its clock then. Refused, nothing has changed.
+fn ignored_at(clock: u32) -> (Result<Rule, Refusal>, u32) {
+    let [nodes_len, channels_len, ..] = lengths(2);
+    let (mut nodes, mut channels) = (vec![0; nodes_len], vec![0; channels_len]);
+    lent::fresh(2, &mut nodes, &mut channels).unwrap();
+    nodes[0] = clock;
+    lent::up(2, 1, 2, &mut nodes, &mut channels).unwrap();
+    let before = (nodes.clone(), channels.clone());
+    let heard = lent::receive(2, 1, 2, &mut nodes, &mut channels);
+    assert!(heard.is_ok() || (&nodes, &channels) == (&before.0, &before.1));
+    (heard.map(|step| step.rule), nodes[nodes_len / 2])
+}
+
 /// What to lend for n stations.
 fn lengths(n: u32) -> [usize; 4] {
     [

@@ -235,12 +235,31 @@ static void hears(uint32_t depth, uint32_t stamp) {
     keep();
 }
 
+/* Station 2 has nobody in its sets: it ignores what it hears. */
+static void deaf(void) {
+    *word(2, 2, ELECTION_AT_FORMING) = 0;
+    memset(cell(2, 2, 1), 0, ELECTION_CELL_LEN * sizeof channels[0]);
+    CHECK(check(2).number == ELECTION_DONE);
+    keep();
+}
+
 static void order_of_ends(void) {
     hears(32767, LAST_TIME);
     CHECK(refused(receive(2, 1, 2), ELECTION_CLOCK_END) && election_waiting(2, 1, 2, channels) == 1); /* by the stamp alone */
-    *word(2, 2, ELECTION_AT_FORMING) = 0;
-    memset(cell(2, 2, 1), 0, ELECTION_CELL_LEN * sizeof channels[0]);
-    CHECK(receive(2, 1, 2).rule == ELECTION_RULE_IGNORED && election_clock(2, 2, nodes) == 2); /* the stamp of a message ignored does not count */
+    deaf();
+    CHECK(refused(receive(2, 1, 2), ELECTION_CLOCK_END) && election_waiting(2, 1, 2, channels) == 1); /* ignored or not */
+    hears(0, LAST_TIME - 1);
+    deaf();
+    CHECK(receive(2, 1, 2).rule == ELECTION_RULE_IGNORED && election_clock(2, 2, nodes) == LAST_TIME && election_waiting(2, 1, 2, channels) == 0);
+    hears(0, 1);
+    deaf();
+    *word(2, 2, ELECTION_AT_CLOCK) = 5;
+    CHECK(receive(2, 1, 2).rule == ELECTION_RULE_IGNORED && election_clock(2, 2, nodes) == 6); /* its own clock is the later one */
+    hears(0, 1);
+    deaf();
+    *word(2, 2, ELECTION_AT_CLOCK) = LAST_TIME;
+    keep();
+    CHECK(refused(receive(2, 1, 2), ELECTION_CLOCK_END) && election_waiting(2, 1, 2, channels) == 1);
     hears(32767, LAST_TIME - 1);
     CHECK(refused(receive(2, 1, 2), ELECTION_DEPTH_END) && election_waiting(2, 1, 2, channels) == 1);
     hears(32766, LAST_TIME - 1);

@@ -120,8 +120,8 @@ impl<'a> Plot<'a> {
         let row = self.row(u);
         let (linked, forming) = (row[1], row[2]);
         let [view @ .., stamp] = message;
+        let clock = after(row[0].max(stamp))?;
         let done = if has(linked | forming, v) {
-            let clock = after(row[0].max(stamp))?;
             let (linked, forming) = (linked | only(v), forming & !only(v));
             let done = hear(row, u, v, clock, linked, forming, Height::of(&view))?;
             self.send(u, clock, &done)?;
@@ -129,7 +129,7 @@ impl<'a> Plot<'a> {
             done
         } else {
             let done = Decision::of(b'I', height(row, u), 0);
-            self.row_mut(u)[0] = after(row[0])?;
+            self.row_mut(u)[0] = clock;
             done
         };
         pop(self.cell_mut(v, u));

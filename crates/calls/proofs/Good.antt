@@ -1,7 +1,7 @@
--- Every state grown from the fresh network is good: it keeps the invariant, is within the ranges, its times make sense, and its history tells what it holds.
+-- Every state grown from the fresh network is good: it keeps the invariant, is within the ranges, its times make sense, its history tells what it holds, and
+-- the clocks in it are causal.
 -- The theorems read their statements off this one induction.
 use Prim.Native.Nat.{ℕ}
-use mathlib.Core.Bool.{cond}
 use mathlib.Core.List.{List, [], _∷_}
 use mathlib.Core.Path.{_≡_, refl, sym, ap, _∙_}
 use borrow.Author.Tests.{eqb-true}
@@ -12,7 +12,7 @@ use Rattle.nodeset.specs.NodeSet.{setOf}
 use Rattle.protocol.specs.Answer.{Said}
 use Rattle.protocol.specs.Network.{Network}
 use Rattle.protocol.specs.Refusal.{returned, accepts, answer, next}
-use Rattle.protocol.specs.Step.{Event, local, step}
+use Rattle.protocol.specs.Step.{Event, local}
 use Rattle.protocol.proofs.Accepted.{accepts-accepted}
 use Rattle.protocol.proofs.Invariant.{Inv}
 use Rattle.protocol.proofs.Said.{rule-said}
@@ -21,7 +21,8 @@ use Rattle.protocol.proofs.StepFits.{step-fits}
 use Rattle.protocol.proofs.StepKeeps.{step-keeps, fresh-inv}
 use Rattle.protocol.proofs.Timed.{Timed, fresh-timed}
 use Rattle.protocol.proofs.TimedStep.{step-timed}
-use Rattle.calls.specs.History.{Told, State, started, entered, advance, grown}
+use Rattle.calls.specs.History.{Told, State, started, advance, grown}
+use Rattle.calls.proofs.CausalLaws.{Clocked, clocked-started, event-clocked}
 use Rattle.calls.proofs.HistoryLaws.{event-told}
 
 pub record Good (n : ℕ) (s : State) : Type 0 where
@@ -29,9 +30,16 @@ pub record Good (n : ℕ) (s : State) : Type 0 where
   pub fits : Fits n (s .network)
   pub timed : Timed (s .network)
   pub told : Told (s .history) (s .network)
+  pub clocked : Clocked (s .history) (s .network)
 
 pub good-started : (n : ℕ) → Good n started
-good-started n = record { inv = fresh-inv n; fits = fresh-fits n; timed = fresh-timed; told = record { ups = λ u v. refl; counts = λ u v. refl } }
+good-started n = record {
+  inv = fresh-inv n;
+  fits = fresh-fits n;
+  timed = fresh-timed;
+  told = record { ups = λ u v. refl; counts = λ u v. refl };
+  clocked = clocked-started;
+}
 
 -- the number in an answer is the returned one
 pub answer-number : (n : ℕ) (p : Network) (e : Event) → answer n p e .why .number ≡ returned n p e
@@ -53,15 +61,15 @@ good-advance n s e g = go (choice (accepts n (s .network) e))
     said : eqb (answer n p e .why .number) 0 ≡ eqb (returned n p e) 0
     said = ap (λ k. eqb k 0) (answer-number n p e)
 
-    go : Choice (accepts n p e)
-        → Good n (record { network = cond (accepts n p e) (step n p e) p; history = entered e (answer n p e) (s .history) })
+    go : Choice (accepts n p e) → Good n (advance n s e)
     go (yes! i) =
         let ok = accepts-accepted n p e i in
         rw (i, said ∙ i) (record {
           inv = step-keeps n p e (g .inv) (g .timed) ok;
           fits = step-fits n p e (g .fits) ok;
           timed = step-timed n p e (g .fits) (g .timed) ok;
-          told = event-told n p (s .history) e (g .fits) i ok (g .told);
+          told = event-told n p (s .history) e (g .fits) i ok (g .told) _;
+          clocked = event-clocked n p (s .history) e (g .fits) i ok (g .told) (g .clocked);
         })
     go (no! i) = rw (i, said ∙ i) g
 

@@ -5,7 +5,7 @@ use native.Mathlib.Omega.{arith}
 use mathlib.Core.Bool.{Bool, true, false, cond, _&&_, _||_, or-true, and-false}
 use mathlib.Core.List.{List, [], _∷_, tail}
 use mathlib.Core.Logic.{inl, inr}
-use mathlib.Core.Path.{_≡_, refl, sym, _∙_}
+use mathlib.Core.Path.{_≡_, refl, sym, ap, _∙_}
 use lib.Dec.{eqb}
 use lib.ListN.{length}
 use borrow.Author.Tests.{eq-eqb, ne-eqb}
@@ -18,7 +18,7 @@ use Rattle.protocol.specs.Holds.{isEmpty}
 use Rattle.protocol.specs.Network.{Message, Network, upTo}
 use Rattle.protocol.specs.Refusal.{accepts, answer}
 use Rattle.protocol.specs.Step.{isDown, isReceipt, Event, up, down, receive, home, Local, carried, localUp, localDown}
-use Rattle.protocol.specs.Step.{localIgnored, localTaken, localReceipt, local, cleared, commit, step}
+use Rattle.protocol.specs.Step.{localIgnored, localTaken, localReceipt, local, cleared, post, commit, step}
 use Rattle.protocol.proofs.Accepted.{Accepted}
 use Rattle.protocol.proofs.Channels.{length-post, cleared-down, cleared-receipt, cleared-off}
 use Rattle.protocol.proofs.Kept.{down-silent}
@@ -27,7 +27,11 @@ use Rattle.protocol.proofs.Soundness.{Fits}
 use Rattle.calls.specs.History.{History, turned, upIn, isSending, sentSince, receivedSince, Told, entry}
 use Rattle.calls.proofs.SentSet.{sent-member, answer-sent}
 
--- ---- what a commit does to sets and counts
+-- ---- what a commit does to sets and channels
+
+-- the message that an event at a sends
+abbrev pub sentBy : ℕ → Local → Message
+sentBy a l = record { height = l .row a; timestamp = l .clock }
 
 module _ (p : Network) (a : ℕ) (l : Local) (ch : ℕ → ℕ → List Message) where
   up-off : (u v : ℕ) → (u ≡ a → ⊥) → upTo (commit p a l ch) u v ≡ upTo p u v
@@ -38,13 +42,16 @@ module _ (p : Network) (a : ℕ) (l : Local) (ch : ℕ → ℕ → List Message)
   unfolding commit
   up-at v = simp row-at
 
-  count-after : (u v : ℕ) → length (commit p a l ch .channel u v) ≡ digit (eqb u a && l .sent v) + length (ch u v)
-  unfolding commit
-  count-after u v = go (equal? u a)
+  pub channel-after : (u v : ℕ) → commit p a l ch .channel u v ≡ post (eqb u a && l .sent v) (sentBy a l) (ch u v)
+  unfolding commit post
+  channel-after u v = go (equal? u a)
     where
-      go : SameOrNot u a → length (commit p a l ch .channel u v) ≡ digit (eqb u a && l .sent v) + length (ch u v)
-      go (inl e) = simp (e, row-at, eq-eqb a a refl) (length-post (l .sent v) (record { height = l .row a; timestamp = l .clock }) (ch a v))
-      go (inr d) = simp (row-off, ne-eqb) (omega arith)
+      go : SameOrNot u a → commit p a l ch .channel u v ≡ post (eqb u a && l .sent v) (sentBy a l) (ch u v)
+      go (inl e) = simp (e, row-at, eq-eqb a a refl)
+      go (inr d) = simp (row-off, ne-eqb)
+
+  count-after : (u v : ℕ) → length (commit p a l ch .channel u v) ≡ digit (eqb u a && l .sent v) + length (ch u v)
+  count-after u v = ap length (channel-after u v) ∙ length-post (eqb u a && l .sent v) (sentBy a l) (ch u v)
 
 -- ---- the event's own sets
 
@@ -88,7 +95,7 @@ tail-count [] h = clash refl h
 tail-count (m ∷ ms) h = omega arith
 
 -- a down of u, v sends v nothing
-down-sends : (n : ℕ) (p : Network) (e : Event) (u v : ℕ) → isDown e u v ≡ true → local n p e .sent v ≡ false
+pub down-sends : (n : ℕ) (p : Network) (e : Event) (u v : ℕ) → isDown e u v ≡ true → local n p e .sent v ≡ false
 unfolding localDown carried
 down-sends n p (up a b) u v h = clash h refl
 down-sends n p (receive b a) u v h = clash h refl
@@ -111,9 +118,9 @@ cleared-count n p e ok u v h = go (choice (isReceipt e u v))
     go (no! r) = rw (r, cleared-off p e u v h r) (omega arith)
 
 pub event-told : (n : ℕ) (p : Network) (h : History) (e : Event) → Fits n p → accepts n p e ≡ true → Accepted n p e
-    → Told h p → Told (entry e (answer n p e) ∷ h) (step n p e)
+    → Told h p → (c : ℕ) → Told (entry e (answer n p e) c ∷ h) (step n p e)
 unfolding step
-event-told n p h e fits zero! ok told = record { ups = ups; counts = counts }
+event-told n p h e fits zero! ok told c = record { ups = ups; counts = counts }
   where
     l : Local
     l = local n p e
@@ -121,7 +128,7 @@ event-told n p h e fits zero! ok told = record { ups = ups; counts = counts }
     after : Network
     after = commit p (home e) l (cleared p e)
 
-    sending : (u v : ℕ) → isSending (entry e (answer n p e)) u v ≡ (eqb u (home e) && l .sent v)
+    sending : (u v : ℕ) → isSending (entry e (answer n p e) c) u v ≡ (eqb u (home e) && l .sent v)
     sending u v = rw (answer-sent n p e zero!, sent-member n p e fits ok v)
 
     ups : (u v : ℕ) → turned e u v (upIn h u v) ≡ upTo after u v
@@ -134,7 +141,7 @@ event-told n p h e fits zero! ok told = record { ups = ups; counts = counts }
     Counted : ℕ → ℕ → Type 0
     Counted u v =
         cond (isDown e u v) 0 (digit (isReceipt e u v) + receivedSince h u v) + length (after .channel u v)
-        ≡ cond (isDown e u v) 0 (digit (isSending (entry e (answer n p e)) u v) + sentSince h u v)
+        ≡ cond (isDown e u v) 0 (digit (isSending (entry e (answer n p e) c) u v) + sentSince h u v)
 
     counts : (u v : ℕ) → Counted u v
     counts u v = go (choice (isDown e u v))

@@ -75,7 +75,7 @@ module _ (write : ℕ → List ℕ → Network → Outcome ℕ (List ℕ)) (read
   pub act-sane : (w : RunState Network) (c : Call) → Sane w → Fair (meant write read n) w c → Sane (act (meant write read n) w c)
   unfolding advance
   act-sane w c s (fairEvent m e) =
-      byCases (λ (o : Outcome Said Network). Sane (steppedTo w e o)) (eqb m n) _ _
+      byCases (λ (o : Outcome Said Network). Sane (steppedTo (λ p. p .clock) w e o)) (eqb m n) _ _
       (λ i. record { good = good-advance n (stateOf w) e (s .good); saves = s .saves }) (λ i. s)
   act-sane w c s (fairSave m out) = record { good = s .good; saves = go (choice (eqb (write m out (w .now) .said) 0)) }
     where

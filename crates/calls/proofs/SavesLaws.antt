@@ -11,7 +11,7 @@ use Rattle.basics.specs.Bytes.{sameBytes}
 use Rattle.basics.proofs.AllOf.{AllOf, more}
 use Rattle.basics.proofs.BytesLaws.{same-bytes, bytes-same}
 use Rattle.basics.proofs.Tests.{not-true-is-false, Choice, yes!, no!, choice}
-use Rattle.protocol.specs.Step.{Event}
+use Rattle.protocol.specs.Step.{Event, home}
 use Rattle.refusal.specs.Outcome.{Outcome}
 use Rattle.calls.specs.History.{entry}
 use Rattle.calls.specs.Run.{Call, event, save, restore, Calls, Saved, RunState, startOfRun, Earlier, savedAt, lastSave, historyAt, act}
@@ -82,9 +82,10 @@ module _ {A : Type 0} (calls : Calls A) (w : RunState A) where
   pub refused-history : (b : List ℕ) → (calls .resumed b (w .now) .said ≡ 0 → ⊥) → act calls w (restore b) .history ≡ w .history
   refused-history b d = rw (ne-eqb (calls .resumed b (w .now) .said) 0 d)
 
-  -- an accepted event enters the history with what was said; a refused one does not, nor does a save
+  -- an accepted event enters the history with what was said and its node's clock after it; a refused one does not, nor does a save
   pub event-enters : (m : ℕ) (e : Event) → calls .stepped m e (w .now) .said .why .number ≡ 0
-      → act calls w (event m e) .history ≡ entry e (calls .stepped m e (w .now) .said) ∷ w .history
+      → act calls w (event m e) .history
+      ≡ entry e (calls .stepped m e (w .now) .said) (calls .clock m (calls .stepped m e (w .now) .after) (home e)) ∷ w .history
   event-enters m e zero! = rw (eq-eqb (calls .stepped m e (w .now) .said .why .number) 0 zero!)
 
   pub event-refused : (m : ℕ) (e : Event) → (calls .stepped m e (w .now) .said .why .number ≡ 0 → ⊥) → act calls w (event m e) .history ≡ w .history

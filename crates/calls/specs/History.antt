@@ -1,4 +1,4 @@
--- The history: document 01, "Lists of calls". The accepted events, newest first, each with what was said.
+-- The history: document 01, "Lists of calls". The accepted events, newest first, each with what was said and its node's clock after it.
 -- Up, and messages waiting, by the history alone.
 use Prim.Native.Nat.{ℕ, _+_, _-_}
 use mathlib.Core.Bool.{Bool, true, false, cond, _&&_}
@@ -16,16 +16,17 @@ use Rattle.protocol.specs.Step.{Event, up, down, receive, home, isDown, isRecei
 pub record Entry : Type 0 where
   pub event : Event
   pub said : Said
+  pub clock : ℕ  -- of the event's node, after it
 
 abbrev pub History : Type 0
 History = List Entry
 
-abbrev pub entry : Event → Said → Entry
-entry e s = record { event = e; said = s }
+abbrev pub entry : Event → Said → ℕ → Entry
+entry e s c = record { event = e; said = s; clock = c }
 
 -- an event that was said to be accepted enters the history
-abbrev pub entered : Event → Said → History → History
-entered e s h = cond (eqb (s .why .number) 0) (entry e s ∷ h) h
+abbrev pub entered : Event → Said → ℕ → History → History
+entered e s c h = cond (eqb (s .why .number) 0) (entry e s c ∷ h) h
 
 -- ---- is channel u to v up: the newest of the ups and downs of u, v decides, and without one it is down
 
@@ -73,7 +74,10 @@ started = record { network = fresh; history = [] }
 
 -- after an event, accepted or refused
 unfoldable pub advance : ℕ → State → Event → State
-advance n s e = record { network = next n (s .network) e; history = entered e (answer n (s .network) e) (s .history) }
+advance n s e = record {
+  network = next n (s .network) e;
+  history = entered e (answer n (s .network) e) (next n (s .network) e .clock (home e)) (s .history);
+}
 
 -- grown from the fresh network by a list of events, refused ones among them
 abbrev pub grown : ℕ → List Event → State

@@ -1,14 +1,14 @@
 -- Lists of calls: document 01, "Lists of calls". Events, saves and restores, refused ones among them; every call brings its own numbers.
 -- What calls are made on (lent tables, or a network), and what each answers and leaves there, are parameters (`Calls`).
 use Prim.Native.Nat.{ℕ}
-use mathlib.Core.Bool.{cond}
+use mathlib.Core.Bool.{Bool, true, false, cond}
 use mathlib.Core.List.{List, [], _∷_}
 use mathlib.Core.Path.{_≡_}
 use lib.Dec.{eqb}
 use Rattle.basics.specs.Bytes.{sameBytes}
 use Rattle.basics.specs.Functions.{afterAll}
 use Rattle.protocol.specs.Answer.{Said}
-use Rattle.protocol.specs.Step.{Event}
+use Rattle.protocol.specs.Step.{Event, home}
 use Rattle.refusal.specs.Outcome.{Outcome}
 use Rattle.calls.specs.History.{History, entered}
 
@@ -17,11 +17,19 @@ pub data Call : Type 0 where
   save : ℕ → List ℕ → Call  -- save m out: of m nodes, into these lent bytes
   restore : List ℕ → Call  -- restore bytes (document 01: resume)
 
+-- no restore
+abbrev pub isPlain : Call → Bool
+isPlain (event m e) = true
+isPlain (save m out) = true
+isPlain (restore b) = false
+
 -- ---- what calls are made on
 
--- what an event says and leaves; the number that a save or a restore returns, and the bytes that the one wrote, what the other leaves
+-- what an event says and leaves, and each node's clock there; the number that a save or a restore returns, and the bytes that the one wrote,
+-- what the other leaves
 pub record Calls (A : Type 0) : Type 0 where
   pub stepped : ℕ → Event → A → Outcome Said A
+  pub clock : ℕ → A → ℕ → ℕ
   pub written : ℕ → List ℕ → A → Outcome ℕ (List ℕ)
   pub resumed : List ℕ → A → Outcome ℕ A
 
@@ -55,9 +63,10 @@ abbrev pub historyAt : {A : Type 0} → Earlier A → History
 historyAt never = []
 historyAt (savedAt s) = s .history
 
--- an accepted event enters the history
-abbrev pub steppedTo : {A : Type 0} → RunState A → Event → Outcome Said A → RunState A
-steppedTo w e o = record { now = o .after; history = entered e (o .said) (w .history); saves = w .saves }
+-- an accepted event enters the history, with its node's clock
+abbrev pub steppedTo : {A : Type 0} → (A → ℕ → ℕ) → RunState A → Event → Outcome Said A → RunState A
+steppedTo clock w e o =
+    record { now = o .after; history = entered e (o .said) (clock (o .after) (home e)) (w .history); saves = w .saves }
 
 -- an accepted save is kept
 abbrev pub keeping : {A : Type 0} → RunState A → Outcome ℕ (List ℕ) → List (Saved A)
@@ -73,7 +82,7 @@ restored w b o =
 
 module _ {A : Type 0} (calls : Calls A) where
   abbrev pub act : RunState A → Call → RunState A
-  act w (event m e) = steppedTo w e (calls .stepped m e (w .now))
+  act w (event m e) = steppedTo (calls .clock m) w e (calls .stepped m e (w .now))
   act w (save m out) = savedTo w (calls .written m out (w .now))
   act w (restore b) = restored w b (calls .resumed b (w .now))
 

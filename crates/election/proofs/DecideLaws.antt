@@ -8,6 +8,7 @@ use mathlib.Core.Path.{_≡_, refl, sym, ap, _∙_}
 use lib.ListN.{length}
 use lib.Pow.{pow-mono}
 use borrow.Author.Tests.{lt-ltb}
+use Rattle.basics.proofs.Tests.{Choice, yes!, no!, choice}
 use Rattle.decision.specs.inner.After.{seen}
 use Rattle.decision.specs.inner.Bounds.{AdoptsNode}
 use Rattle.height.specs.Clock.{lastTime, saidMoved, clockAfter}
@@ -192,20 +193,31 @@ module _ {n : ℕ} {t : Tables} {u v : ℕ} (b : Between n t u v) {row : List �
       at-tables : {r : Bool} → (member (neighborsIn row) v || member (formingIn row) v) ≡ r → (neighborsAt n t u v || formingAt n t u v) ≡ r
       at-tables e = rw (← is) e
 
-      module _ (unknown : (member (neighborsIn row) v || member (formingIn row) v) ≡ false)
-          {c : ℕ} (clocks : c ≡ clockIn row) {m : Moved} (answers : saidMoved m ≡ clockAfter c 0) where
-        pub ignored-late : m ≡ AtEnd → outcome (saidRefused (why 7 0 0)) t ≡ stepAt n (receive v u) t
-        ignored-late e =
-            ends-late b Received (receive-fit n t u v b waits) _ _ _ _ _ (local-ignored n t u v b waits (at-tables unknown)) (clock-past _ 0 answers (ticks clocks) e)
+      hears : {c s : ℕ} → c ≡ clockIn row → s ≡ messageAt cell 1 .timestamp
+          → max c s ≡ max (clockIn (nodeOf n u (t .nodes))) (messageAt (channelOf n v u (t .channels)) 1 .timestamp)
+      hears clocks stamps = rw (clocks, stamps, is, holds)
 
-        pub ignored-ready : {T : Time} → m ≡ To T → {N F : ℕ} → N ≡ neighborsIn row → F ≡ formingIn row
+      module _ {c s : ℕ} (clocks : c ≡ clockIn row) (stamps : s ≡ messageAt cell 1 .timestamp) {m : Moved} (answers : saidMoved m ≡ clockAfter c s) where
+        -- used or ignored
+        pub receipt-late : m ≡ AtEnd → outcome (saidRefused (why 7 0 0)) t ≡ stepAt n (receive v u) t
+        receipt-late e = go (choice (member (neighborsIn row) v || member (formingIn row) v))
+          where
+            past : lastTime < suc (max (clockIn (nodeOf n u (t .nodes))) (messageAt (channelOf n v u (t .channels)) 1 .timestamp))
+            past = clock-past c s answers (hears clocks stamps) e
+
+            go : Choice (member (neighborsIn row) v || member (formingIn row) v) → outcome (saidRefused (why 7 0 0)) t ≡ stepAt n (receive v u) t
+            go (yes! known) = ends-late b Received (receive-fit n t u v b waits) _ _ _ _ _ (local-heard n t u v b waits (at-tables known)) past
+            go (no! unknown) = ends-late b Received (receive-fit n t u v b waits) _ _ _ _ _ (local-ignored n t u v b waits (at-tables unknown)) past
+
+        pub ignored-ready : (member (neighborsIn row) v || member (formingIn row) v) ≡ false
+            → {T : Time} → m ≡ To T → {N F : ℕ} → N ≡ neighborsIn row → F ≡ formingIn row
             → {view : Height} → (view ≡ heightIn row v) × Negated (view .pair .nlts .0)
             → Ready Received n t u v (record { rule = Ignored; clock = T; neighbors = N; forming = F; view = view })
-        ignored-ready {T} e {N} {F} ns fs {view} w = record {
+        ignored-ready unknown {T} e {N} {F} ns fs {view} w = record {
           between = b;
           fits = receive-fit n t u v b waits;
-          intime = clock-fits _ 0 answers (ticks clocks) e;
-          leaves = rw (clock-is _ 0 answers (ticks clocks) e, w .0, is, neighbors-are ns fs, forming-are ns fs)
+          intime = clock-fits c s answers (hears clocks stamps) e;
+          leaves = rw (clock-is c s answers (hears clocks stamps) e, w .0, is, neighbors-are ns fs, forming-are ns fs)
               (local-ignored n t u v b waits (at-tables unknown));
           neighbors-lt = neighbors-lt ns fs;
           forming-lt = forming-lt ns fs;
@@ -213,21 +225,12 @@ module _ {n : ℕ} {t : Tables} {u v : ℕ} (b : Between n t u v) {row : List �
           view-negated = w .1;
         }
 
-      hears : {c s : ℕ} → c ≡ clockIn row → s ≡ messageAt cell 1 .timestamp
-          → max c s ≡ max (clockIn (nodeOf n u (t .nodes))) (messageAt (channelOf n v u (t .channels)) 1 .timestamp)
-      hears clocks stamps = rw (clocks, stamps, is, holds)
-
-      module _ (known : (member (neighborsIn row) v || member (formingIn row) v) ≡ true)
-          {c s : ℕ} (clocks : c ≡ clockIn row) (stamps : s ≡ messageAt cell 1 .timestamp) {m : Moved} (answers : saidMoved m ≡ clockAfter c s) where
-        pub heard-late : m ≡ AtEnd → outcome (saidRefused (why 7 0 0)) t ≡ stepAt n (receive v u) t
-        heard-late e =
-            ends-late b Received (receive-fit n t u v b waits) _ _ _ _ _ (local-heard n t u v b waits (at-tables known)) (clock-past c s answers (hears clocks stamps) e)
-
-        pub heard-ready : {T : Time} → m ≡ To T → {N F M G : ℕ} → N ≡ neighborsIn row → F ≡ formingIn row → M ≡ joined N v → G ≡ without F v
+        pub heard-ready : (member (neighborsIn row) v || member (formingIn row) v) ≡ true
+            → {T : Time} → m ≡ To T → {N F M G : ℕ} → N ≡ neighborsIn row → F ≡ formingIn row → M ≡ joined N v → G ≡ without F v
             → {view : Height} → (view ≡ messageAt cell 1 .height) × Negated (view .pair .nlts .0)
             → {rule : Rule} → rule ≡ receiptRule n (member M) (seen row v view) u v
             → Ready Received n t u v (record { rule = rule; clock = T; neighbors = M; forming = G; view = view })
-        heard-ready {T} e {N} {F} {M} {G} ns fs q g {view} w {rule} chosen = record {
+        heard-ready known {T} e {N} {F} {M} {G} ns fs q g {view} w {rule} chosen = record {
           between = b;
           fits = receive-fit n t u v b waits;
           intime = clock-fits c s answers (hears clocks stamps) e;

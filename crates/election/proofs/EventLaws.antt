@@ -123,7 +123,8 @@ module _ (n : ℕ) (t : Tables) (u v : ℕ) (b : Between n t u v) where
 
   pub local-ignored : 1 ≤ count cell → (neighborsAt n t u v || formingAt n t u v) ≡ false
       → local n (load n t) (receive v u)
-      ≡ carried n (member (neighborsIn row)) (member (formingIn row)) (seen row v (heightIn row v)) u v (suc (clockIn row)) Ignored
+      ≡ carried n (member (neighborsIn row)) (member (formingIn row)) (seen row v (heightIn row v)) u v
+      (suc (max (clockIn row) (messageAt cell 1 .timestamp))) Ignored
   unfolding localIgnored
   local-ignored h unknown =
       let q : upTo (load n t) u v ≡ false = up-is ∙ unknown in

@@ -1,7 +1,7 @@
 // The events on tables that passed the check: node numbers (3), then what is decided by reading alone, the channel (4, 5, 6), the clock (7)
 // and the rule, then its end.
 ghost use mathlib.Core.Path.{_≡_};
-ghost use mathlib.Core.Bool.{true, false, not, _&&_, _||_};
+ghost use mathlib.Core.Bool.{not, _&&_, _||_};
 ghost use mathlib.Core.List.{List};
 ghost use Prim.Native.Nat.{ℕ, _≤_};
 ghost use lib.Dec.{eqb};
@@ -12,8 +12,6 @@ ghost use Rattle.nodeset.specs.NodeSet.{member};
 ghost use Rattle.protocol.specs.Answer.{said};
 ghost use Rattle.protocol.specs.Network.{Node, isNode};
 ghost use Rattle.refusal.specs.Outcome.{outcome};
-ghost use Rattle.tables.specs.Cell.{count};
-ghost use Rattle.tables.specs.Row.{neighborsIn, formingIn};
 ghost use Rattle.tables.specs.Tables.{cellWidth, atEntry, atExit, tables};
 ghost use Rattle.tables.specs.inner.Fit.{given, RowFits, TablesFit};
 ghost use Rattle.election.specs.StepOn.{stepAt};
@@ -119,39 +117,32 @@ fn decide_down(n: u32, u: u32, v: u32, row: &[u32]) -> Decided
     })
 }
 
-// A message from a node in neither set: the clock moves. Rule I.
-fn decide_ignored(n: u32, v: u32, row: &[u32]) -> Decided
-    requires { ⌜ (n ≤ 16) × Node n v × RowFits n (now row) × ((member (neighborsIn (now row)) v || member (formingIn (now row)) v) ≡ false) ⌝ }
-    ensures { λ r. ⌜ ((u : ℕ) (cell : List ℕ) → 1 ≤ count cell → DecidesBy Kind.Received n u v (now (row .entry)) cell r) ⌝ }
-{
-    let neighbors = tables::rows::neighbors(row);
-    let forming = tables::rows::forming(row);
-    let Moved::To(clock) = tables::rows::clock(row).after(Time(0)) else {
-        return Decided::Refused(Refusal::ClockEnd);
-    };
-    let view = tables::rows::height_in(n, row, v);
-    let rule = Rule::Ignored;
-    Decided::As(Decision {
-        rule,
-        clock,
-        neighbors,
-        forming,
-        view,
-    })
-}
-
-// A message from a node in one of the sets: the sender moves to N, and the row takes its height as the view of it.
-fn decide_heard(n: u32, u: u32, v: u32, row: &[u32], cell: &[u32]) -> Decided
-    requires { ⌜ (n ≤ 16) × Node n u × Node n v × RowFits n (now row) × (length (now cell) ≡ cellWidth) × (1 ≤ count (now cell))
-        × ((member (neighborsIn (now row)) v || member (formingIn (now row)) v) ≡ true) ⌝ }
+// A receipt: the clock moves past the stamp. From a node in neither set nothing else is taken, rule I; else the sender moves to N, and the row takes its height
+// as the view of it.
+fn decide_receipt(n: u32, u: u32, v: u32, row: &[u32], cell: &[u32]) -> Decided
+    requires { ⌜ (n ≤ 16) × Node n u × Node n v × RowFits n (now row) × (length (now cell) ≡ cellWidth) ⌝ }
     ensures { λ r. ⌜ DecidesBy Kind.Received n u v (now (row .entry)) (now (cell .entry)) r ⌝ }
 {
+    if tables::cells::waiting(cell) == 0 {
+        return Decided::Refused(Refusal::NoMessage);
+    }
     let linked = tables::rows::neighbors(row);
     let linking = tables::rows::forming(row);
     let stamp = tables::cells::nth_timestamp(cell, 0);
     let Moved::To(clock) = tables::rows::clock(row).after(stamp) else {
         return Decided::Refused(Refusal::ClockEnd);
     };
+    if !is_up(linked, linking, v) {
+        let view = tables::rows::height_in(n, row, v);
+        let rule = Rule::Ignored;
+        return Decided::As(Decision {
+            rule,
+            clock,
+            neighbors: linked,
+            forming: linking,
+            view,
+        });
+    }
     let neighbors = nodeset::insert(linked, v);
     let forming = nodeset::remove(linking, v);
     let view = tables::cells::nth_height(cell, 0);
@@ -163,19 +154,6 @@ fn decide_heard(n: u32, u: u32, v: u32, row: &[u32], cell: &[u32]) -> Decided
         forming,
         view,
     })
-}
-
-fn decide_receipt(n: u32, u: u32, v: u32, row: &[u32], cell: &[u32]) -> Decided
-    requires { ⌜ (n ≤ 16) × Node n u × Node n v × RowFits n (now row) × (length (now cell) ≡ cellWidth) ⌝ }
-    ensures { λ r. ⌜ DecidesBy Kind.Received n u v (now (row .entry)) (now (cell .entry)) r ⌝ }
-{
-    if tables::cells::waiting(cell) == 0 {
-        return Decided::Refused(Refusal::NoMessage);
-    }
-    if is_up(tables::rows::neighbors(row), tables::rows::forming(row), v) {
-        return decide_heard(n, u, v, row, cell);
-    }
-    decide_ignored(n, v, row)
 }
 
 fn decide(kind: Kind, n: u32, u: u32, v: u32, nodes: &[u32], channels: &[u32]) -> Decided

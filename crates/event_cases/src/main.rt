@@ -81,6 +81,32 @@ fn late(nodes: &mut [u32], channels: &mut [u32]) {
     receive(3, 3, 1, nodes, channels);
 }
 
+// 7 at a message that is ignored (document 02, [5]), by its stamp, 4,294,967,295: it stays.
+fn late_ignored(nodes: &mut [u32], channels: &mut [u32]) {
+    scenes::fresh(nodes, channels);
+    scenes::clock_of_1(nodes, 4294967294);
+    up(3, 1, 2, nodes, channels);
+    receive(3, 1, 2, nodes, channels);
+    receive(3, 1, 2, nodes, channels);
+}
+
+// One less is taken, and moves the clock to its end: 7 at an up.
+fn ignored_to_the_end(nodes: &mut [u32], channels: &mut [u32]) {
+    scenes::fresh(nodes, channels);
+    scenes::clock_of_1(nodes, 4294967293);
+    up(3, 1, 2, nodes, channels);
+    receive(3, 1, 2, nodes, channels);
+    up(3, 2, 1, nodes, channels);
+}
+
+// 7 at a message that is ignored, by the clock.
+fn ignored_at_the_end(nodes: &mut [u32], channels: &mut [u32]) {
+    scenes::fresh(nodes, channels);
+    up(3, 2, 1, nodes, channels);
+    scenes::clock_of_1(nodes, 4294967295);
+    receive(3, 2, 1, nodes, channels);
+}
+
 // 8, case j: a depth of 32,766 is adopted from, 32,767 is not.
 fn deep(nodes: &mut [u32], channels: &mut [u32]) {
     scenes::linked(nodes, channels);
@@ -121,6 +147,9 @@ fn main() {
     unfit(nodes, channels);
     late_up(nodes, channels);
     late(nodes, channels);
+    late_ignored(nodes, channels);
+    ignored_to_the_end(nodes, channels);
+    ignored_at_the_end(nodes, channels);
     deep(nodes, channels);
     full(nodes, channels);
     full_reply(nodes, channels);

@@ -6,7 +6,7 @@ use mathlib.Core.List.{List, [], _∷_, tail}
 use mathlib.Core.Path.{_≡_, refl, _∙_}
 use lib.ListN.{length}
 use borrow.Author.Tests.{ne-eqb}
-use Rattle.basics.proofs.AllOf.{AllOf, none, more, all-tail}
+use Rattle.basics.proofs.AllOf.{AllOf, none, all-snoc, all-tail}
 use Rattle.basics.proofs.FunctionsLaws.{cell-at, cell-off}
 use Rattle.basics.proofs.Tests.{clash, Choice, yes!, no!, choice, both-equal}
 use Rattle.nodeset.specs.NodeSet.{digit}
@@ -38,8 +38,7 @@ length-post true m (x ∷ ms) = omega (arith, length-post true m ms)
 pub post-all : (P : Message → Type 0) (b : Bool) (m : Message) (ms : List Message) → P m → AllOf P ms → AllOf P (post b m ms)
 unfolding post
 post-all P false m ms h k = k
-post-all P true m ms h none = more h none
-post-all P true m ms h (more {x = x} {xs = rest} i k) = more i (post-all P true m rest h k)
+post-all P true m ms h k = all-snoc P ms m k h
 
 -- ---- what an event clears
 

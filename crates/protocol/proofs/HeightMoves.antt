@@ -143,7 +143,7 @@ module _ (n : ℕ) (p : Network) (fits : Fits n p) (timed : Timed p) (u v : ℕ)
 
   ignored-moves : (m : Message) → MovesAt (localIgnored n p u v (m .timestamp))
   unfolding localIgnored
-  ignored-moves m = carried-moves (p .neighbors u) (p .forming u) (p .height u) (suc (p .clock u)) Ignored refl (λ _. by-I)
+  ignored-moves m = carried-moves (p .neighbors u) (p .forming u) (p .height u) (suc (max (p .clock u) (m .timestamp))) Ignored refl (λ _. by-I)
 
   message-moves : isEmpty (p .channel v u) ≡ false → MovesAt (localReceipt n p u v (p .channel v u))
   message-moves some! = go (p .channel v u) refl

@@ -1,10 +1,11 @@
 -- Laws and theorems about one event; a file uses only those above it.
--- Said, SoundStep, TimelyStep, HeightMoves, Locality and Cases hold the results, the others lead to them.
+-- Said, ClockMoves, SoundStep, TimelyStep, HeightMoves, Locality and Cases hold the results, the others lead to them.
 pub mod Said
 pub mod NodeLaws
 pub mod Channels
 pub mod RuleLaws
 pub mod RuleCases
+pub mod ClockMoves
 pub mod Timed
 pub mod LinkLaws
 pub mod Invariant

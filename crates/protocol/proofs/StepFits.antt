@@ -163,7 +163,7 @@ module _ (n : ℕ) (p : Network) (fits : Fits n p) (u v : ℕ) (su : Node n u) (
   ignored-fits : (m : Message) → FitsIf n p u (localIgnored n p u v (m .timestamp)) (cleared p (receive v u))
   unfolding localIgnored
   ignored-fits m =
-      carried-fits (p .neighbors u) (p .forming u) (p .height u) changed (receive v u) (suc (p .clock u)) Ignored
+      carried-fits (p .neighbors u) (p .forming u) (p .height u) changed (receive v u) (suc (max (p .clock u) (m .timestamp))) Ignored
       (λ i. (cleared-nil (p .channel u v) _ (cleared-is p (receive v u) u v) (fits .idle u v i), refl)) (λ a b. old .own su)
     where
       changed : Changed (p .neighbors u) (p .forming u) (p .height u)

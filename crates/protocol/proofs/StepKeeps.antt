@@ -24,7 +24,7 @@ use Rattle.protocol.proofs.Invariant.{PostedBy, sideOf, Inv, news, Link
 use Rattle.protocol.proofs.Kept.{informed-v, down-silent, Changed, seen, mine, selfN, selfF, carried-keeps}
 use Rattle.protocol.proofs.LinkLaws.{Half, Link, raised, raise, dropped, drop, drained, ignore, heard, hear}
 use Rattle.protocol.proofs.RuleCases.{verdict, toOne, toNone, Kept, Answered, kept-still, answered, kept-down}
-use Rattle.protocol.proofs.RuleLaws.{byCases, not-sink-by-leader}
+use Rattle.protocol.proofs.RuleLaws.{byCases, not-sink-by-leader, later}
 use Rattle.protocol.proofs.Timed.{Timed, left-timed, heard-timed}
 
 -- ---- the events
@@ -126,7 +126,7 @@ module _ (n : ℕ) (p : Network) (inv : Inv n p) (timed : Timed p) (u v : ℕ) (
     ignored-keeps free = carried-keeps (receive v u) n p inv other (p .neighbors u) (p .forming u) (p .height u) changed (suc c) Ignored kept at-v
       where
         c : ℕ
-        c = p .clock u
+        c = max (p .clock u) (m .timestamp)
 
         changed : Changed (receive v u) n p inv other (p .neighbors u) (p .forming u) (p .height u)
         changed = record {
@@ -136,8 +136,8 @@ module _ (n : ℕ) (p : Network) (inv : Inv n p) (timed : Timed p) (u v : ℕ) (
 
         kept : Kept n (p .neighbors u) (p .height u) u v (suc c) Ignored (p .height u u)
         kept =
-            kept-still n (p .neighbors u) (p .height u) u v c Ignored (timed .heights u u) (inv .nodes u .mine) (inv .nodes u .awake)
-            (toNone refl (λ w b. refl))
+            kept-still n (p .neighbors u) (p .height u) u v c Ignored (later (p .clock u) c (p .height u u) (omega arith) (timed .heights u u))
+            (inv .nodes u .mine) (inv .nodes u .awake) (toNone refl (λ w b. refl))
 
         at-v : LinkAfter p u (localIgnored n p u v (m .timestamp)) (cleared p (receive v u)) v
         at-v = rw (update-self (p .height u) u, taken-u, taken-v) (ignore (sideOf p u v) (sideOf p v u) m ms queue free link)

@@ -88,7 +88,10 @@ module _ (n : ℕ) (p : Network) (fits : Fits n p) (timed : Timed p) (u v : ℕ)
 
       ignored : (m : Message) → G (localIgnored n p u v (m .timestamp))
       ignored m =
-          carried-timed (receive v u) (p .neighbors u) (p .forming u) (p .height u) (p .clock u) Ignored (omega arith) (timed .heights u) still
+          let c = max (p .clock u) (m .timestamp) in
+          carried-timed (receive v u) (p .neighbors u) (p .forming u) (p .height u) c Ignored (omega arith)
+          (λ w. later (p .clock u) c (p .height u w) (omega arith) (timed .heights u w))
+          (later (p .clock u) (suc c) (p .height u u) (omega arith) (timed .heights u u))
 
       go : (q : List Message) → p .channel v u ≡ q → G (localReceipt n p u v (p .channel v u))
       go [] e = clash (rw e) some!

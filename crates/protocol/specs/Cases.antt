@@ -203,6 +203,21 @@ oldLeaderHeard =
     (withNode 3 5 (1 ∷ []) [] (h 0 0 0 (pos 0) (negsuc 3) 1 1 ∷ h 0 0 0 (pos 1) (negsuc 3) 1 3 ∷ [])
     (withMessage 2 1 (h 0 0 0 (pos 0) (pos 0) 2 2) 3 fresh)))
 
+-- a message with this stamp waits at node 2, which has this clock and nobody in its sets
+abbrev pub passingBy : ℕ → ℕ → Network
+passingBy stamp clock =
+    withNode 1 stamp [] (2 ∷ []) (h 0 0 0 (pos 0) (pos 0) 1 1 ∷ [])
+    (withNode 2 clock [] [] (h 0 0 0 (pos 0) (pos 0) 2 2 ∷ []) (withMessage 1 2 (h 0 0 0 (pos 0) (pos 0) 1 1) stamp fresh))
+
+-- it is received there: the letter (I 73, or the dash 45 where it is refused), and the clock afterwards
+abbrev pub ignoring : ℕ → ℕ → ℕ → ℕ → Case
+ignoring stamp clock letter left = record {
+  nodes = 2;
+  start = passingBy stamp clock;
+  events = receive 1 2 ∷ [];
+  expected = expect (letter ∷ []) (0 ∷ []) (held 2 left (h 0 0 0 (pos 0) (pos 0) 2 2) ∷ []) false;
+}
+
 abbrev pub readings : List Case
 readings =
     record {
@@ -229,12 +244,26 @@ readings =
       events = receive 2 1 ∷ [];
       expected = expect (82 ∷ []) (2 ∷ []) (held 1 6 (h 0 0 0 (pos 0) (negsuc 3) 1 1) ∷ []) false;
     }
-    -- the bench's example, with a later stamp: an ignored message (I 73) moves the clock by one and leaves nothing
+    -- document 01's bench listing: an ignored message (document 02, [5]), and none behind it; station 2 ends with clock 2
+    ∷ record {
+      nodes = 2;
+      start = fresh;
+      events = up 1 2 ∷ receive 1 2 ∷ receive 1 2 ∷ [];
+      expected = expect (85 ∷ 73 ∷ 45 ∷ []) (2 ∷ 0 ∷ 0 ∷ []) (held 1 1 (h 0 0 0 (pos 0) (pos 0) 1 1) ∷ held 2 2 (h 0 0 0 (pos 0) (pos 0) 2 2) ∷ []) false;
+    }
+    -- past the stamp, or past the own clock where that is the later one; 7 by either
+    ∷ ignoring 5 2 73 6
+    ∷ ignoring 2 5 73 6
+    ∷ ignoring 4294967294 0 73 4294967295
+    ∷ ignoring 4294967295 0 45 0
+    ∷ ignoring 1 4294967294 73 4294967295
+    ∷ ignoring 1 4294967295 45 4294967295
+    -- the listing's events with a later stamp
     ∷ record {
       nodes = 3;
       start = fresh;
       events = up 1 3 ∷ up 1 2 ∷ receive 1 2 ∷ [];
-      expected = expect (85 ∷ 85 ∷ 73 ∷ []) (4 ∷ 2 ∷ 0 ∷ []) (held 1 2 (h 0 0 0 (pos 0) (pos 0) 1 1) ∷ held 2 1 (h 0 0 0 (pos 0) (pos 0) 2 2) ∷ []) false;
+      expected = expect (85 ∷ 85 ∷ 73 ∷ []) (4 ∷ 2 ∷ 0 ∷ []) (held 1 2 (h 0 0 0 (pos 0) (pos 0) 1 1) ∷ held 2 3 (h 0 0 0 (pos 0) (pos 0) 2 2) ∷ []) false;
     }
     ∷ []
 

@@ -113,17 +113,17 @@ localDown n p u v =
     let row : ℕ → Height = update (p .height u) v zeroHeight in
     carried n N (update (p .forming u) v false) row u v (ticked (p .clock u)) (downRule n N row u)
 
--- v in neither set: the clock moves, nothing else. Rule I
+-- v in neither set: the clock moves, as for any receipt, and nothing else. Rule I
 unfoldable pub localIgnored : ℕ → Network → ℕ → ℕ → ℕ → Local
 localIgnored n p u v stamp =
-    carried n (p .neighbors u) (p .forming u) (p .height u) u v (receiptClock true (p .clock u) stamp) Ignored
+    carried n (p .neighbors u) (p .forming u) (p .height u) u v (receiptClock (p .clock u) stamp) Ignored
 
 -- the sender v moves from F to N, and its height becomes the view of it
 unfoldable pub localTaken : ℕ → Network → ℕ → ℕ → Message → Local
 localTaken n p u v m =
     let N : ℕ → Bool = update (p .neighbors u) v true in
     let row : ℕ → Height = update (p .height u) v (m .height) in
-    carried n N (update (p .forming u) v false) row u v (receiptClock false (p .clock u) (m .timestamp)) (receiptRule n N row u v)
+    carried n N (update (p .forming u) v false) row u v (receiptClock (p .clock u) (m .timestamp)) (receiptRule n N row u v)
 
 -- a receipt at u from v with these messages waiting (none: refused with 6 before this is asked)
 abbrev pub localReceipt : ℕ → Network → ℕ → ℕ → List Message → Local

@@ -1,5 +1,6 @@
--- Demand 3 and what it rests on.
+-- Demand 3, causal clocks, and what they rest on.
 pub mod Lists
+pub mod Entries
 pub mod ImageBack
 pub mod Simulation
 pub mod TablesRun
@@ -7,6 +8,7 @@ pub mod AllowedLists
 pub mod Demand3
 pub mod SavedComesBack
 pub mod NeverUntimely
+pub mod CausalRuns
 pub mod ReadOff
 pub mod Desk
 pub mod OlderSave

@@ -1,17 +1,11 @@
 -- Lists of calls one behind the other: what they leave, and that they are fair exactly when both parts are. Without restores they always are.
 -- What the calls are made on is any type.
-use mathlib.Core.Bool.{Bool, true, false}
+use mathlib.Core.Bool.{true}
 use mathlib.Core.List.{List, [], _∷_, _++_}
 use mathlib.Core.Path.{_≡_, refl}
 use Rattle.basics.specs.Functions.{all}
 use Rattle.basics.proofs.Tests.{clash}
-use Rattle.calls.specs.Run.{Call, event, save, restore, Calls, RunState, act, perform, Fair, fairEvent, fairSave, AllFair, fairNil, fairCons}
-
--- no restore
-abbrev pub isPlain : Call → Bool
-isPlain (event m e) = true
-isPlain (save m out) = true
-isPlain (restore b) = false
+use Rattle.calls.specs.Run.{Call, event, save, restore, isPlain, Calls, RunState, act, perform, Fair, fairEvent, fairSave, AllFair, fairNil, fairCons}
 
 module _ {A : Type 0} (calls : Calls A) where
   pub perform-append : (w : RunState A) (cs ds : List Call) → perform calls w (cs ++ ds) ≡ perform calls (perform calls w cs) ds

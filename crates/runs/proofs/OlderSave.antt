@@ -1,10 +1,10 @@
 -- A list of calls with an accepted restore of an older save behind a younger one, on the tables of two nodes: allowed, computed call by call
--- from the contracts' definitions, and quiet at its end. So the hypotheses of demand 3, (b) and (c) among them, have inhabitants.
-use Prim.Native.Nat.{ℕ}
+-- from the contracts' definitions, and quiet at its end. So the hypotheses of demand 3, (b) and (c) among them, have inhabitants; and those of causal clocks.
+use Prim.Native.Nat.{ℕ, _<_}
 use native.Mathlib.Omega.{arith}
 use mathlib.Core.Bool.{true}
 use mathlib.Core.List.{List, [], _∷_, _++_, map}
-use mathlib.Core.Path.{_≡_, refl}
+use mathlib.Core.Path.{_≡_, refl, ap}
 use lib.ListN.{set, replicate}
 use Rattle.basics.specs.Functions.{every, everyPair, all, update}
 use Rattle.bits.specs.Bits.{bits, number, unpacked, packed, field, total, spread, gathered}
@@ -32,7 +32,7 @@ use Rattle.image_snapshot.specs.Save.{saveOn}
 use Rattle.lent.specs.Check.{pairAt, faultInRow, faultFrom, firstFault, checkOn, firstUntimely, contentsOn, timelyAt}
 use Rattle.nodeset.specs.NodeSet.{member, setOf, within, sameNode, apart, leastFrom, lowest}
 use Rattle.pairs.specs.Pair.{ownSound, viewSound, channelSound, pairSound, timelyIn}
-use Rattle.protocol.specs.Answer.{carriedOut, saidRefused}
+use Rattle.protocol.specs.Answer.{Said, carriedOut, saidRefused}
 use Rattle.protocol.specs.Holds.{levelHolds, deltaHolds, leaderPairHolds, heightHolds, messageHolds, notInBoth, setsHold}
 use Rattle.protocol.specs.Network.{Node, own}
 use Rattle.protocol.specs.Quiet.{pairQuiet, quiet}
@@ -52,6 +52,7 @@ use Rattle.tables.specs.Tables.{Tables, sized}
 use Rattle.runs.specs.OnTables.{tablesAfter, putOut, onTables, freshTables, after, Allowed}
 use Rattle.runs.specs.inner.Replies.{Reply, toEvent, toSave, toRestore, reply, replies}
 use Rattle.runs.proofs.AllowedLists.{refused-allowed}
+use Rattle.runs.proofs.CausalRuns.{AcceptedAt, clockLeft, SentByCall, CausalCalls, causal-calls}
 use Rattle.runs.proofs.Demand3.{tablesAt, networkAt, historyAfter, Resumed, Demand3, demand-3}
 use Rattle.runs.proofs.Desk.{CollectorSaid, desk}
 use Rattle.runs.proofs.Lists.{fair-append, plain-fair}
@@ -117,6 +118,10 @@ twice =
     save 2 room ∷ event 2 (up 1 2) ∷ event 2 (up 2 1) ∷ save 2 room ∷ restore blank ∷ event 2 (up 2 1) ∷ event 2 (up 1 2) ∷ save 2 room
     ∷ event 2 (receive 1 2) ∷ restore both ∷ []
 
+-- a third list: U 1 2 alone
+abbrev pub passing : List Call
+passing = event 2 (up 1 2) ∷ []
+
 -- ---- what they answer
 
 abbrev pub meeting : List Reply
@@ -147,11 +152,11 @@ pub record Computed : Type 0 where
   pub save-accepted : saveOn 2 (tablesAt 2 meet) room .said .why .number ≡ 0
   pub no-image : restoreOn [] (tablesAt 2 first) .said .number ≡ 10
   pub at-fault : restoreOn damaged (tablesAt 2 (first ++ (restore [] ∷ []))) .said .number ≡ 2
-  -- the accepted events, newest first, each with what was said; those behind the older save are gone
+  -- the accepted events, newest first, each with what was said and its node's clock; those behind the older save are gone
   pub history-is : historyAfter 2 calls
-      ≡ entry (receive 1 2) (carriedOut 81 0 0 zeroLevel) ∷ entry (receive 2 1) (carriedOut 81 0 0 zeroLevel)
-      ∷ entry (receive 2 1) (carriedOut 82 2 0 zeroLevel) ∷ entry (receive 1 2) (carriedOut 65 1 1 zeroLevel)
-      ∷ entry (up 2 1) (carriedOut 85 1 0 zeroLevel) ∷ entry (up 1 2) (carriedOut 85 2 0 zeroLevel) ∷ []
+      ≡ entry (receive 1 2) (carriedOut 81 0 0 zeroLevel) 3 ∷ entry (receive 2 1) (carriedOut 81 0 0 zeroLevel) 3
+      ∷ entry (receive 2 1) (carriedOut 82 2 0 zeroLevel) 2 ∷ entry (receive 1 2) (carriedOut 65 1 1 zeroLevel) 2
+      ∷ entry (up 2 1) (carriedOut 85 1 0 zeroLevel) 1 ∷ entry (up 1 2) (carriedOut 85 2 0 zeroLevel) 1 ∷ []
   -- of the two saves that wrote the same bytes the last one counts
   pub last-counts : map (λ (e : Entry). e .event) (historyAfter 2 twice) ≡ up 1 2 ∷ up 2 1 ∷ []
   -- at the end it is the network of the younger save again, and quiet
@@ -164,6 +169,10 @@ pub record Computed : Type 0 where
   pub not-yet : quietOn 2 (tablesAt 2 meet) ≡ accepted 0
   pub apart-again : headsOn 2 (tablesAt 2 behind) ≡ accepted 3
   pub no-third : groupOn 2 3 (tablesAt 2 calls) ≡ refusedWith (record { members = 0; collectors = 0 }) (why 3 0 0)
+  -- a list without restores, as document 01 has it for the bench: node 2 ignores (I 73) what node 1 sent, and has clock 2; then it has an up
+  pub ignored : stepOn 2 (receive 1 2) (tablesAt 2 passing) .said ≡ carriedOut 73 0 0 zeroLevel
+  pub ignored-clock : clockLeft 2 passing 2 (receive 1 2) ≡ 2
+  pub up-then : stepOn 2 (up 2 1) (tablesAt 2 (passing ++ (event 2 (receive 1 2) ∷ []))) .said ≡ carriedOut 85 1 0 zeroLevel
 
 -- and by the theorems: the list is allowed, the restore is accepted and goes on as the older save, and at the end the history is quiet and one node leads
 pub record TakenBack : Type 0 where
@@ -173,6 +182,11 @@ pub record TakenBack : Type 0 where
   pub quiet-then : Quiescent 2 (upIn (historyAfter 2 calls)) (waiting (historyAfter 2 calls))
   pub one-leader : (u : ℕ) → Node 2 u → OneLeader 2 (upIn (historyAfter 2 calls)) (own (networkAt 2 calls)) u
   pub one-said : (u : ℕ) → Node 2 u → CollectorSaid 2 calls u
+
+-- causal clocks on the other list: the message ignored was sent by a call with a smaller clock, and node 2's next event has a larger one
+pub record InOrder : Type 0 where
+  pub ignored-sent : SentByCall 2 passing 1 2 2
+  pub ignored-before : 2 < clockLeft 2 (passing ++ (event 2 (receive 1 2) ∷ [])) 2 (up 2 1)
 
 -- ---- the proof
 
@@ -206,6 +220,9 @@ computed = record {
   not-yet = refl;
   apart-again = refl;
   no-third = refl;
+  ignored = refl;
+  ignored-clock = refl;
+  up-then = refl;
 }
 
 first-allowed : Allowed 2 first
@@ -241,3 +258,15 @@ taken-back = record {
   one-leader = demanded .one-leader (quiet-by-history 2 calls demanded (computed .ends-quiet));
   one-said = desk 2 (omega arith) (omega arith) calls calls-allowed .collector (computed .quiet-said);
 }
+
+pub in-order : InOrder
+unfolding all
+in-order =
+    let calls : CausalCalls 2 (passing ++ (event 2 (receive 1 2) ∷ event 2 (up 2 1) ∷ []))
+    = causal-calls 2 (omega arith) (omega arith) (passing ++ (event 2 (receive 1 2) ∷ event 2 (up 2 1) ∷ [])) refl in
+    let heard : AcceptedAt 2 passing 2 (receive 1 2) = ap (λ (s : Said). s .why .number) (computed .ignored) in
+    let risen : AcceptedAt 2 (passing ++ (event 2 (receive 1 2) ∷ [])) 2 (up 2 1) = ap (λ (s : Said). s .why .number) (computed .up-then) in
+    record {
+      ignored-sent = rw (computed .ignored-clock) at (calls .received passing (event 2 (up 2 1) ∷ []) 2 1 2 refl heard);
+      ignored-before = rw (computed .ignored-clock) at (calls .own passing [] [] 2 2 (receive 1 2) (up 2 1) refl heard risen refl);
+    }

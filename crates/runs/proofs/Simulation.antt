@@ -12,6 +12,7 @@ use Rattle.basics.proofs.Tests.{Choice, yes!, no!, choice, SameOrNot, equal?}
 use Rattle.calls.specs.History.{advance}
 use Rattle.calls.specs.Run.{Call, event, save, restore, Saved, RunState, startOfRun, Earlier, never, savedAt, lastSave}
 use Rattle.calls.specs.Run.{steppedTo, savedTo, act, perform, Fair, fairEvent, fairSave, fairSaved, fairRefused, AllFair}
+use Rattle.calls.proofs.Good.{good-advance}
 use Rattle.calls.proofs.Runs.{stateOf, act-sane, start-sane, Imaged}
 use Rattle.calls.proofs.SavesLaws.{found}
 use Rattle.election.specs.inner.Meant.{saidTo, called}
@@ -25,6 +26,7 @@ use Rattle.lent.proofs.CheckLaws.{check-sizes}
 use Rattle.lent.proofs.SoundNetworks.{sound-check}
 use Rattle.protocol.specs.Answer.{Said}
 use Rattle.protocol.specs.Network.{Network, fresh}
+use Rattle.protocol.specs.Refusal.{next}
 use Rattle.protocol.specs.Step.{Event}
 use Rattle.protocol.proofs.Holding.{sound-holds, timely-holds}
 use Rattle.protocol.proofs.Restrict.{restrict-is}
@@ -97,8 +99,21 @@ module _ (n : ℕ) (low : 1 ≤ n) (few : n ≤ 16) (w : RunState Network) (sane
       go (yes! i) = rw i
       go (no! i) = rw i
 
+  -- what is read off the tables left is the network left, so the history takes the same clock
+  onto-entered : (m : ℕ) (e : Event)
+      → steppedTo (onTables .clock m) (onto n w) e (outcome (byMeaning n .stepped m e p .said) (tablesOf n (byMeaning n .stepped m e p .after)))
+      ≡ onto n (act (byMeaning n) w (event m e))
+  unfolding advance
+  onto-entered m e = go (equal? m n)
+    where
+      go : SameOrNot m n
+          → steppedTo (onTables .clock m) (onto n w) e (outcome (byMeaning n .stepped m e p .said) (tablesOf n (byMeaning n .stepped m e p .after)))
+          ≡ onto n (act (byMeaning n) w (event m e))
+      go (inl q) = rw (q, eq-eqb n n refl, load-back n (next n p e) (storable n (next n p e) (good-advance n (stateOf w) e (sane .good) .fits)))
+      go (inr d) = rw (ne-eqb m n d)
+
   onto-event : (m : ℕ) (e : Event) → Onto (event m e)
-  onto-event m e = ap (λ (o : Outcome Said Tables). steppedTo (onto n w) e o) (event-is m e)
+  onto-event m e = ap (λ (o : Outcome Said Tables). steppedTo (onTables .clock m) (onto n w) e o) (event-is m e) ∙ onto-entered m e
 
   -- the tables pass the check
   pub passing : checkOn n (tablesOf n (w .now)) ≡ why 0 0 0

@@ -7,7 +7,7 @@ use mathlib.Core.List.{List, [], _∷_, _++_, map}
 use mathlib.Core.Path.{_≡_, refl, sym, ap, _∙_}
 use Rattle.basics.specs.Functions.{afterAll, all}
 use Rattle.calls.specs.History.{grown}
-use Rattle.calls.specs.Run.{Call, event, startOfRun}
+use Rattle.calls.specs.Run.{Call, event, isPlain, startOfRun}
 use Rattle.dot.specs.declared.Edge.{Edge}
 use Rattle.dot.proofs.Exactly.{IsSketch}
 use Rattle.drawing.specs.Links.{linksHold, upsOf}
@@ -22,7 +22,7 @@ use Rattle.tables.specs.Load.{tablesOf}
 use Rattle.tables.specs.Tables.{Tables}
 use Rattle.runs.specs.OnTables.{tablesAfter, tablesAfterAll, onTables, freshTables, Allowed}
 use Rattle.runs.proofs.Demand3.{tablesAt, Demand3, demand-3}
-use Rattle.runs.proofs.Lists.{isPlain, plain-fair}
+use Rattle.runs.proofs.Lists.{plain-fair}
 
 -- ---- the statement
 

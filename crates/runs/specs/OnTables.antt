@@ -11,7 +11,7 @@ use Rattle.image_snapshot.specs.Save.{saveOn}
 use Rattle.protocol.specs.Network.{fresh}
 use Rattle.refusal.specs.Outcome.{Answered, Outcome, outcome}
 use Rattle.refusal.specs.declared.Why.{Why}
-use Rattle.tables.specs.Load.{tablesOf}
+use Rattle.tables.specs.Load.{load, tablesOf}
 use Rattle.tables.specs.Tables.{Tables}
 
 -- ---- calls one after the other
@@ -39,6 +39,7 @@ refilling o = outcome (o .said .number) (o .after)
 abbrev pub onTables : Calls Tables
 onTables = record {
   stepped = stepOn;
+  clock = λ m t. load m t .clock;
   written = λ m out t. writing (saveOn m t out);
   resumed = λ b t. refilling (restoreOn b t);
 }

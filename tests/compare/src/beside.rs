@@ -1,5 +1,6 @@
 //! One plot in both: the reference's plot and the tables lent to the interface.
 
+use crate::causal::{Lent, Watch, note_end};
 use crate::drawings::{compare_links, compare_text};
 use crate::ffi;
 use crate::heights::{compare_heights, lent_height};
@@ -20,6 +21,7 @@ pub struct Beside {
     pub plot: Plot,
     pub tables: Tables,
     pub history: History,
+    pub watch: Watch,
     pub events: u64,
 }
 
@@ -31,6 +33,7 @@ impl Beside {
         assert_eq!(answer, expected_check(Ok(())));
         let beside = Beside {
             tables,
+            watch: Watch::fresh(),
             ..Beside::planted(Plot::fresh(n))
         };
         beside.assert_same_tables();
@@ -44,6 +47,7 @@ impl Beside {
             tables: tables::store(&plot),
             plot,
             history: History::default(),
+            watch: Watch::default(),
             events: 0,
         }
     }
@@ -56,6 +60,7 @@ impl Beside {
     pub fn step(&mut self, event: Event, tally: &mut Tally) -> Answer {
         self.events += 1;
         let answer = step::step(&mut self.plot, event);
+        let stamp = self.lent().stamp_for(event);
         let answered = call(self.n(), event, &mut self.tables);
         let count = self.events;
         assert_eq!(
@@ -65,17 +70,24 @@ impl Beside {
         );
         self.assert_same_tables();
         assert_eq!(first_untimely(&self.plot), None, "after event {count}");
+        let left = Lent {
+            n: self.plot.n,
+            tables: &self.tables,
+        };
+        self.watch.see(event, &answered, stamp, left, tally);
         self.ask(tally);
         self.ask_heights(tally);
         self.ask_drawing(tally);
         self.history.note(event, &answer);
         note_event(event, &answer, tally);
+        note_end(&self.plot, event, &answer, tally);
         answer
     }
 
     /// Quiet, the groups and the group of one number, another at each event; of every number at each eighth.
     fn ask(&self, tally: &mut Tally) {
         if self.events.is_multiple_of(8) {
+            self.watch.assert_waiting(self.lent());
             self.asked().compare_all(&[], tally);
         } else {
             let u = self.events as i64 % (self.n() + 2);
@@ -99,6 +111,13 @@ impl Beside {
         compare_text(self.n(), &self.tables, &text, self.events, tally);
         if self.events.is_multiple_of(8) {
             compare_links(self.n(), &self.tables, tally);
+        }
+    }
+
+    pub fn lent(&self) -> Lent<'_> {
+        Lent {
+            n: self.n(),
+            tables: &self.tables,
         }
     }
 

@@ -61,8 +61,8 @@ struct Run {
     left: i64,
 }
 
-/// One history from the fresh plot of any n. Demand 3 is checked whenever the network is quiet, and at the end the channels are
-/// those that the history tells.
+/// One history from the fresh plot of any n. Demand 3 is checked whenever the network is quiet, clocks at every event, and at the end
+/// the channels are those that the history tells.
 pub fn fresh_history(seed: u64, tally: &mut Tally) {
     let mut random = Random::new(seed);
     let n = random.between(1, 16);
@@ -81,6 +81,7 @@ pub fn fresh_history(seed: u64, tally: &mut Tally) {
     run.mend(tally);
     run.deliver(2000, tally);
     run.assert_history_agrees();
+    run.beside.watch.check(tally);
 }
 
 /// One short history from a planted plot: no demand 3, but the ends of clocks, depths and channels. A few have a time beyond its clock.
@@ -250,5 +251,6 @@ impl Run {
     fn assert_history_agrees(&self) {
         let agrees = self.beside.history.agrees(&self.beside.plot);
         assert_eq!(agrees, Ok(()));
+        self.beside.watch.assert_waiting(self.beside.lent());
     }
 }

@@ -5,6 +5,7 @@
 
 pub mod beside;
 pub mod calls;
+pub mod causal;
 pub mod damage;
 pub mod damaged_images;
 pub mod damaged_tables;

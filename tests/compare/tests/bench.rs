@@ -49,9 +49,10 @@ fn the_example_of_document_01() {
 }
 
 #[test]
-fn the_plot_of_the_readme() {
-    assert_eq!(
-        reference::bench::listing(&bytes("examples/plot.txt")),
-        bytes("examples/plot.out")
-    );
+fn the_plots_of_examples() {
+    for name in ["plot", "clocks"] {
+        let input = bytes(&format!("examples/{name}.txt"));
+        let stored = bytes(&format!("examples/{name}.out"));
+        assert_eq!(reference::bench::listing(&input), stored, "{name}");
+    }
 }

@@ -47,6 +47,19 @@ const DRAWN: [&str; 5] = [
     "drawn: a channel one way",
 ];
 
+/// Receipts at which another rule for the clock, or another sending taken for theirs, would be noticed; and histories gone through whole.
+const CAUSAL: [&str; 9] = [
+    "causal: used",
+    "causal: ignored",
+    "causal: used, and by one would not do",
+    "causal: ignored, and by one would not do",
+    "causal: used, and its own clock is later",
+    "causal: ignored, and its own clock is later",
+    "causal: a newer message waits",
+    "causal: behind a down that lost messages",
+    "causal: checked whole",
+];
+
 /// From the fresh plots of 1 to 16 stations, with saves and resumes between, and demand 3 on every quiet network met.
 #[test]
 fn fresh_histories() {
@@ -65,6 +78,7 @@ fn fresh_histories() {
     ]);
     tally.assert_met(&ASKED);
     tally.assert_met(&DRAWN);
+    tally.assert_met(&CAUSAL);
     // Not 2: levels of one time by two originators are rare here.
     assert_parted(&tally, &[1, 3, 4, 5, 6, 7]);
     // Document 02, [3]: a grown plot, resumed or not, never meets 18; only images that were damaged do.
@@ -83,6 +97,7 @@ fn planted_histories() {
     tally.assert_met(&["up 3", "down 3", "receipt 3"]);
     tally.assert_met(&["up 4", "down 5", "receipt 6"]);
     tally.assert_met(&["up 7", "down 7", "receipt 7"]);
+    tally.assert_met(&["receipt 7, ignored, by its stamp"]);
     tally.assert_met(&["receipt 8", "down 9", "receipt 9"]);
     tally.assert_met(&ASKED);
     tally.assert_met(&DRAWN);

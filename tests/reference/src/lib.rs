@@ -7,7 +7,7 @@
 //! |---|---|
 //! | [`plot`] | What a station holds |
 //! | [`parting`] | What a station holds (the order of heights), with request [1] of document 02 |
-//! | [`step`] | The clock; The three events |
+//! | [`step`] | The clock, with request [5] of document 02; The three events |
 //! | [`refusal`] | Returned numbers |
 //! | [`tables`] | Returned numbers (1 and 2), over the lent tables |
 //! | [`image`] | The plot image |
@@ -17,12 +17,14 @@
 //! | [`bench`] | The bench program |
 //! | [`drawing`] | none: request [2] of document 02 |
 //! | [`times`] | none: request [3] of document 02 |
+//! | [`causal`] | none: request [5] of document 02, with section 2.3 of source 001 |
 //!
 //! [`sketches`] has texts for the reader of [`drawing`], good and bad, for tests here and elsewhere.
 #![forbid(unsafe_code)]
 
 pub mod bench;
 mod bits;
+pub mod causal;
 mod dice;
 pub mod drawing;
 mod event;
@@ -44,6 +46,8 @@ pub mod times;
 #[cfg(test)]
 mod worked_arrows;
 #[cfg(test)]
+mod worked_causal;
+#[cfg(test)]
 mod worked_drawings;
 #[cfg(test)]
 mod worked_fields;
@@ -53,6 +57,8 @@ mod worked_forms;
 mod worked_groups;
 #[cfg(test)]
 mod worked_heights;
+#[cfg(test)]
+mod worked_ignored;
 #[cfg(test)]
 mod worked_images;
 #[cfg(test)]
@@ -65,6 +71,8 @@ mod worked_orders;
 mod worked_plots;
 #[cfg(test)]
 mod worked_rooms;
+#[cfg(test)]
+mod worked_runs;
 #[cfg(test)]
 mod worked_sketches;
 #[cfg(test)]

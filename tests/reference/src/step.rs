@@ -1,4 +1,5 @@
-//! Document 01, "The clock" and "The three events (001, section 3.5)": one step of a sound plot.
+//! Document 01, "The clock" and "The three events (001, section 3.5)": one step of a sound plot. The
+//! clock of an ignored message is that of request [5] of document 02.
 
 pub use crate::event::{Answer, Event, Rule};
 use crate::plot::{
@@ -65,7 +66,7 @@ fn check_room(plot: &Plot, u: i64, sent_to: &BTreeSet<i64>) -> Result<(), Refusa
     }
 }
 
-/// 01, 3.2: past clock and stamp; 7 at the clock's end (5.9).
+/// 01, 3.2, for every receipt (02, [5]): past clock and stamp; 7 at the clock's end (5.9).
 fn clock_after(clock: i64, stamp: i64) -> Result<i64, Refusal> {
     let moved = clock.max(stamp) + 1;
     if moved > LAST_CLOCK {
@@ -75,7 +76,7 @@ fn clock_after(clock: i64, stamp: i64) -> Result<i64, Refusal> {
     }
 }
 
-/// 01, 3.1: one step on.
+/// 01, 3.1, for up and down: one step on.
 fn clock_by_one(clock: i64) -> Result<i64, Refusal> {
     clock_after(clock, clock)
 }
@@ -117,13 +118,13 @@ fn down(mut station: Station, v: i64) -> Result<Outcome, Refusal> {
     }
 }
 
-/// 01, 4.12 and 4.13, then 4.14 to 4.21: the rule by the two pairs, v's against u's.
+/// 01, 4.12 and 4.13, then 4.14 to 4.21: the rule by the two pairs, v's against u's. The clock moves
+/// before it is asked whether v is known (02, [5]).
 fn receipt(mut station: Station, v: i64, message: Message) -> Result<Outcome, Refusal> {
+    station.clock = clock_after(station.clock, message.stamp)?;
     if !station.knows(v) {
-        station.clock = clock_by_one(station.clock)?;
         return Ok(keep_quiet(station, Rule::I));
     }
-    station.clock = clock_after(station.clock, message.stamp)?;
     station.forming.remove(&v);
     station.linked.insert(v, message.height);
     match message.height.pair.cmp(&station.own.pair) {

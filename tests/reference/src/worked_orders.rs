@@ -221,11 +221,9 @@ fn clock_7_before_depth_8_before_room_9() {
     assert_eq!(number(&plot, heard(1, 2)), 7, "by the stamp");
     plot.stations.get_mut(&2).unwrap().forming.clear();
     plot.waiting_mut(2, 1).clear();
-    assert_eq!(
-        number(&plot, heard(1, 2)),
-        0,
-        "ignored: the stamp does not count"
-    );
+    assert_eq!(number(&plot, heard(1, 2)), 7, "ignored, by the stamp");
+    plot.waiting_mut(1, 2)[0].stamp = LAST_CLOCK - 1;
+    assert_eq!(number(&plot, heard(1, 2)), 0, "ignored, one before");
     hold(&mut plot, 2, LAST_CLOCK, [0, 0, 0, 0, 0, 2, 2]);
     assert_eq!(number(&plot, heard(1, 2)), 7, "ignored, by its own clock");
     let mut plot = plot_i(LEAST_DEPTH, 4);

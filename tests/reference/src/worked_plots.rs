@@ -217,10 +217,11 @@ fn case_m() {
     assert_eq!(resume(&image, nodes_len(16), channels_len(16)), Ok(plot));
 }
 
+/// With the clock of station 2 as request [5] of document 02 has it.
 #[test]
 fn bench_example() {
     let output = "event code rule sent\n1 0 U 1\n2 0 I 0\n3 6 - 0\n\
-        station leader clock\n1 1 1\n2 2 1\n";
+        station leader clock\n1 1 1\n2 2 2\n";
     for input in ["N 2\nU 1 2\nM 1 2\nM 1 2\n", "N 2\nU 1 2\nM 1 2\nM 1 2"] {
         assert_eq!(
             String::from_utf8(listing(input.as_bytes())).unwrap(),

@@ -17,4 +17,4 @@ module _ (write : ℕ → List ℕ → Network → Outcome ℕ (List ℕ)) (read
   stepMeant m e p = cond (eqb m n) (outcome (answer n p e) (next n p e)) (outcome (saidRefused (why 1 0 0)) p)
 
   abbrev pub meant : Calls Network
-  meant = record { stepped = stepMeant; written = write; resumed = read }
+  meant = record { stepped = stepMeant; clock = λ m p. p .clock; written = write; resumed = read }

@@ -2,6 +2,7 @@
 
 use super::Run;
 use crate::beside::compare_restore;
+use crate::causal::Watch;
 use crate::damage;
 use crate::events::planted_event;
 use crate::tally::Tally;
@@ -9,11 +10,12 @@ use reference::history::History;
 use reference::image;
 use reference::plot::Plot;
 
-/// A save of the list: the bytes, the plot and the history as they stood.
+/// A save of the list: the bytes, the plot and the history as they stood, in both tellings.
 pub(super) struct Kept {
     image: Vec<u8>,
     plot: Plot,
     history: History,
+    watch: Watch,
 }
 
 impl Run {
@@ -23,6 +25,7 @@ impl Run {
             image,
             plot: self.beside.plot.clone(),
             history: self.beside.history.clone(),
+            watch: self.beside.watch.clone(),
         });
     }
 
@@ -43,6 +46,7 @@ impl Run {
         self.beside.resume(&kept.image, tally);
         assert_eq!(self.beside.plot, kept.plot, "the plot at the save");
         self.beside.history = kept.history.clone();
+        self.beside.watch = kept.watch.clone();
         self.assert_history_agrees();
         self.beside.check_quiet(tally);
     }
