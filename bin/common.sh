@@ -87,6 +87,29 @@ answered() { # PROGRAM WORD..
     answer=${answer%.}
 }
 
+# ---- lists of histories
+
+# Ends the command where a word is no number that the program takes.
+numbers() { # WORD..
+    local word
+    for word; do
+        [[ $word =~ ^(0|[1-9][0-9]{0,8})$ ]] || fail 2 "not a number of at most 9 digits, without zeros in front: '$word' (see $name --help)"
+    done
+}
+
+# The list goes to `answer`; where it is refused, the command ends. One station has no history but the empty one.
+list_histories() { # N LENGTH
+    built histories_list
+    answered histories_list "$1" "$2" </dev/null
+    case $answer in
+    "refused 1"$'\n') fail 3 "refused 1: a plot has 1 to 16 stations, and histories are listed for 1 to 3" ;;
+    "refused 19"$'\n') fail 3 "refused 19: histories are listed up to 3 stations and up to 5 events" ;;
+    "N $1"$'\n'*$'\n' | "N $1"$'\n') [ $((${#answer} % (4 + 6 * $2))) -eq 0 ] && return ;;
+    '') [ "$1" -eq 1 ] && [ "$2" -gt 0 ] && return ;;
+    esac
+    fail 1 "target/bin/histories_list gave no list"
+}
+
 # ---- proving and building
 
 built() { # PROGRAM

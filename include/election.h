@@ -27,6 +27,11 @@
  *   blank as here, no comment, no other name. Numbers are 0 to 99 without a leading zero. It stands for the fresh plot, and then, line by
  *   line, up at a and up at b.
  *
+ * HISTORIES. Plots of up to 3 stations have lists of all their histories of 0 to 5 events: each row of that many events which, one after the
+ * other, are all carried out from the fresh plot of n, once each. As a text a history is one bench input: the line `N n`, then a line `U u v`,
+ * `D u v` or `M u v` for each event (M: at v, from u), every line with the byte 10; the next history follows at once. In order: ups
+ * stand before downs and these before receipts, those of one kind by the first number and then by the second; histories by their first event that differs.
+ *
  * WHOSE TABLES. They hold a whole plot, as a bench or a gateway keeps it. A logger knows itself and its radio, and that is enough: an
  * event at u depends on row u, the cells from u and, for a receipt, the message received; of all else only that the check passes.
  * Logger u keeps tables of its own (examples/devices.c; what of this is proved, own-view, is in docs/FIRMWARE.md):
@@ -43,8 +48,9 @@
  * THREADS. No static data, no allocation, no lock. Calls on different memory may run at once; calls that share memory may if none
  * writes it (const marks what is only read).
  *
- * SIZE (x86-64, docs/FIRMWARE.md): 30 KB of code; ELECTION_STACK_MAX bytes of stack at most; tables and image as lent. Of the
- * C library it needs memmove and memset. The archive is for x86-64 only: docs/FIRMWARE.md says what to do on another processor.
+ * SIZE (x86-64, docs/FIRMWARE.md): 33 KB of code; ELECTION_STACK_MAX bytes of stack at most, for a list of histories
+ * ELECTION_HISTORIES_STACK; tables, image and texts as lent. Of the C library it needs memmove and memset. The archive is for x86-64 only:
+ * docs/FIRMWARE.md says what to do on another processor.
  *
  * WHAT PASSES THE CHECK (else 2). The sets of u share no station and hold neither u nor a bit above n. A height has an originator up to n
  * and a bit up to 1; its search time and its originator are 0 only together, and then the bit is 0 too; a depth of -32,768 to 32,767;
@@ -67,6 +73,7 @@
  *                                  and for read_node at last 3, 13
  *   sketch_stations                none: it takes any text
  *   read_sketch                    16 by the whole text, 1 by its n, 17
+ *   histories                      1, 19, 14
  * The pair of 2 is the first at fault, u ascending, then v. The pair u u covers both sets, the own height and the unused cell u to u;
  * the pair u v covers the view of v in row u and the channel u to v. 18 comes only where no pair is at fault, with the first pair of which
  * a time makes no sense: u u for the own height, u v for the view and the channel. By itself a clock may be any word.
@@ -84,10 +91,10 @@ extern "C" {
 /* The version of this interface. MAJOR moves when something declared here changes its meaning or goes, MINOR when something is added (a
  * call, a number, a letter: take a number that you do not know as a refusal), PATCH with words only. A number added may refuse what was
  * carried out before: since 1.3.0 it is 18, and a logger with tables of its own sets the clocks of the other rows (WHOSE TABLES). Since
- * 2.0.0 a message ignored (I) moves the clock past its stamp, and its stamp can give 7. The archive has no number of its own: take both
- * from one bin/install. */
+ * 2.0.0 a message ignored (I) moves the clock past its stamp, and its stamp can give 7. 2.1.0 adds the lists of histories, with 19, and
+ * nothing else moves. The archive has no number of its own: take both from one bin/install. */
 #define ELECTION_VERSION_MAJOR 2
-#define ELECTION_VERSION_MINOR 0
+#define ELECTION_VERSION_MINOR 1
 #define ELECTION_VERSION_PATCH 0
 #define ELECTION_VERSION (ELECTION_VERSION_MAJOR * 1000000 + ELECTION_VERSION_MINOR * 1000 + ELECTION_VERSION_PATCH)
 
@@ -95,7 +102,8 @@ extern "C" {
 
 #define ELECTION_MAX_STATIONS 16
 #define ELECTION_CAPACITY 8     /* messages on a channel */
-#define ELECTION_STACK_MAX 1400 /* bytes of stack that any call takes at any n, on x86-64; painted and measured (tests/c/stack.c) */
+#define ELECTION_STACK_MAX 1400 /* bytes of stack that any other call takes at any n, on x86-64; painted and measured (tests/c/stack.c) */
+#define ELECTION_HISTORIES_STACK 5000 /* the same for election_histories and election_histories_len, which ELECTION_STACK_MAX leaves out */
 
 /* What to lend for n stations, as constant expressions: static uint32_t nodes[ELECTION_NODES_LEN(6)]. For any n they equal the calls
  * below, 0 for n outside 1 to 16. */
@@ -106,6 +114,7 @@ extern "C" {
     ELECTION_IF_SIZE_(n, (ELECTION_HEADER_BITS_ + (size_t)(n) * ELECTION_STATION_BITS_(n) + (size_t)(n) * ((size_t)(n) - 1) * ELECTION_CHANNEL_BITS_) / 8)
 #define ELECTION_DRAWING_MAX(n) \
     ELECTION_IF_SIZE_(n, 17 + (size_t)(n) * (4 * (size_t)(n) + ((size_t)(n) < 10 ? (size_t)(n) : 2 * (size_t)(n) - 9)))
+#define ELECTION_HISTORIES_MOST ((size_t)654636) /* bytes of the longest list: 19,254 histories of 34, n = 3 and length 5 */
 #define ELECTION_IF_SIZE_(n, len) ((size_t)(n) >= 1 && (size_t)(n) <= ELECTION_MAX_STATIONS ? (len) : (size_t)0)
 
 /* Bits in an image, not part of the interface: how many stand before field k of a height or a message, that is, at 7 a height and at 8 a message; of the
@@ -165,7 +174,8 @@ enum {
                                  /* 15 is the bench's alone */
     ELECTION_SKETCH_FORM = 16,   /* the text is no sketch, or one of more than 16 stations */
     ELECTION_SKETCH_LINK = 17,   /* a sketch links to 0, above n, a station to itself, or two stations twice, in either order */
-    ELECTION_UNTIMELY = 18       /* tables or image hold a time later than its clock or stamp, first at the pair (fault_at, fault_with) */
+    ELECTION_UNTIMELY = 18,      /* tables or image hold a time later than its clock or stamp, first at the pair (fault_at, fault_with) */
+    ELECTION_TOO_LARGE = 19      /* histories of more than 3 stations, or of more than 5 events */
 };
 
 /* A line for a returned number, and one for any other. */
@@ -185,10 +195,11 @@ static inline const char *election_strerror(uint32_t number) {
     case ELECTION_IMAGE_HEADER: return "the image's header is wrong";
     case ELECTION_IMAGE_END: return "the image ends too early or too late, or its last bits are not 0";
     case ELECTION_PLACE: return "the station's record does not start at that place";
-    case ELECTION_ROOM: return "the room for the image or the drawing is too small";
+    case ELECTION_ROOM: return "the room for the image, the drawing or the list is too small";
     case ELECTION_SKETCH_FORM: return "the text is no sketch of 1 to 16 stations";
     case ELECTION_SKETCH_LINK: return "the sketch has a link to no station, to itself, or named twice";
     case ELECTION_UNTIMELY: return "the tables or the image hold a time later than its clock or stamp at the pair that is named";
+    case ELECTION_TOO_LARGE: return "histories are listed up to 3 stations and 5 events";
     default: return "no number of this interface";
     }
 }
@@ -268,6 +279,14 @@ typedef struct {
     uint64_t size;                                     /* the image's, or the drawing's, length in bytes */
 } election_saved;
 
+/* What a list of histories answers. */
+typedef struct {
+    uint32_t number;
+    uint32_t fault_at, fault_with;                     /* always 0 */
+    uint32_t histories;                                /* how many there are */
+    uint64_t size;                                     /* the list's length in bytes */
+} election_listed;
+
 /* What a look at one station answers. */
 typedef struct {
     uint32_t number;
@@ -304,6 +323,10 @@ size_t election_channels_len(uint32_t n);  /* 65 n n words */
 size_t election_row_len(uint32_t n);       /* 7 n words */
 size_t election_image_len(uint32_t n);     /* bytes that hold every image of n stations; 34,044 for 16 */
 size_t election_drawing_len(uint32_t n);   /* bytes that hold every drawing of n stations; 1,409 for 16 */
+
+/* Bytes of the list of histories, to the byte; 0 for n outside 1 to 3 or a length above 5, and where there is none (n = 1, length 1 to 5).
+ * It makes the list to see how long it is. ELECTION_HISTORIES_MOST holds each. */
+size_t election_histories_len(uint32_t n, uint32_t length);
 
 /* ---- calls: tables */
 
@@ -359,6 +382,11 @@ uint32_t election_sketch_stations(const uint8_t *text, size_t text_len);
 
 /* The plot of a sketch goes into tables of the sketch's n, whatever they held. */
 election_checked election_read_sketch(const uint8_t *text, size_t text_len, uint32_t *nodes, size_t nodes_len, uint32_t *channels, size_t channels_len);
+
+/* ---- calls: histories */
+
+/* All histories of `length` events of n stations go to the front of out as a text; the bytes behind it stay, and no byte 0 ends it. */
+election_listed election_histories(uint32_t n, uint32_t length, uint8_t *out, size_t out_len);
 
 /* ---- calls: heights */
 

@@ -12,7 +12,7 @@ export WORK CLOCK
 trap 'rm -rf "$WORK"' EXIT
 chmod 755 "$WORK"
 mkdir "$WORK/tools" "$WORK/rt" "$WORK/links" "$WORK/log"
-for tool in bash env readlink dirname cat head tail awk find sort xargs sha256sum grep mkdir rm flock sleep base64; do
+for tool in bash env readlink dirname cat head tail awk find sort xargs sha256sum grep mkdir rm flock sleep base64 mktemp mkfifo; do
     ln -s "$(command -v "$tool")" "$WORK/tools/$tool"
 done
 paths=$WORK/rt:$WORK/tools
@@ -237,8 +237,9 @@ scratch() {
     rm -rf "$WORK/root"
     mkdir -p "$WORK/root/crates" "$WORK/root/target/bin" "$WORK/root/target/stamp"
     cp -R "$here/bin" "$WORK/root/bin"
-    printf '%s\n' '# crates' 'low:' 'bench: middle io # and low' 'other: low' 'middle: low' 'image_look: middle io' 'plot_draw: middle io' >"$WORK/root/crates.txt"
-    for crate in low middle other bench image_look plot_draw; do
+    printf '%s\n' '# crates' 'low:' 'bench: middle io # and low' 'other: low' 'middle: low' 'image_look: middle io' 'plot_draw: middle io' \
+        'histories_list: middle io' >"$WORK/root/crates.txt"
+    for crate in low middle other bench image_look plot_draw histories_list; do
         mkdir -p "$WORK/root/crates/$crate/src"
         echo "// $crate" >"$WORK/root/crates/$crate/src/lib.rt"
     done
@@ -252,6 +253,7 @@ programs() {
     call 'root/bin/bench plot' >"$WORK/log/programs"
     call 'root/bin/image check plot' >"$WORK/log/programs"
     call 'root/bin/draw plot' >"$WORK/log/programs"
+    call 'root/bin/histories 2 0' >"$WORK/log/programs"
     : >"$WORK/calls"
 }
 
@@ -265,6 +267,9 @@ group() { # NAME
 }
 
 # ---- the groups
+
+# shellcheck source=tests/commands_histories.sh
+source "$here/tests/commands_histories.sh"
 
 arguments() {
     call 'root/bin/bench --help'
@@ -366,6 +371,9 @@ full() {
     call 'root/bin/image check image >/dev/full'
     call 'root/bin/draw image >/dev/full'
     call 'root/bin/sketch image >/dev/full'
+    call 'root/bin/histories 2 1 >/dev/full'
+    call 'root/bin/histories-against ./build 2 1 >/dev/full'
+    call 'root/bin/histories-against ./build 2 1 late >/dev/full'
     call 'root/bin/bench missing 2>/dev/full'
     echo '// more' >>"$WORK/root/crates/low/src/lib.rt"
     rm "$WORK/root/target/bin/bench"
@@ -516,6 +524,13 @@ terminal() {
     plan from_nothing
     call "$(command -v script) -qec 'root/bin/bench plot' /dev/null" |
         sed -e "s/$(printf '\r')/</g" -e "s/$(printf '\033')\[K/>/g" -e 's/><b/>\n<b/g' -e "s|^\$ .*/script |$ script |"
+    plan nothing_changed
+    programs
+    # what is said once more where a second goes by is left out
+    for word in good late; do
+        call "$(command -v script) -qec 'root/bin/histories-against ./build 2 1 $word' /dev/null" |
+            sed -e "s/$(printf '\r')/</g" -e "s/$(printf '\033')\[K/>/g" -e 's/<histories-against: 1 of 2 histories agree>//' -e "s|^\$ .*/script |$ script |"
+    done
 }
 
 # The proved programs: what bench lists is the same from a file, from standard input and through a link, and nothing is said; what draw draws is
@@ -535,6 +550,13 @@ real() {
     bin/sketch examples/plan.dot >"$WORK/plan.image"
     [ "$(bin/image check "$WORK/plan.image")" = 0 ]
     bin/draw "$WORK/plan.image" | sed -e 's/^digraph/graph/' -e 's/  \(.*\) -> \(.*\);/  \2 -- \1;/' | cmp examples/plan.dot -
+    bin/histories 2 2 2>&1 | cmp examples/histories.txt -
+    bin/histories 1 1 | cmp /dev/null -
+    refuses 1 'bin/histories 0 6'
+    refuses 1 'bin/histories 17 0'
+    refuses 19 'bin/histories 16 0'
+    refuses 19 'bin/histories 3 6'
+    refuses 19 'bin/histories-against true 4 0'
     refuses 16 'bin/sketch examples/plot.dot'
     refuses 17 'sed "s/5 -- 6/6 -- 6/" examples/plan.dot | bin/sketch -'
     refuses 17 'bin/sketch crates/drawing_cases/data/longest'
@@ -551,13 +573,13 @@ refuses() { # NUMBER-OR-WORDS LINE PAIR
     local status=0 says=$1
     [[ $1 == *[a-z]* ]] || says="refused $1"
     eval "$2" >"$WORK/listing" 2>"$WORK/log/err" || status=$?
-    if [ "$status" -ne 3 ] || [ -s "$WORK/listing" ] || ! grep -qE "^(draw|sketch): $says${3-}: " "$WORK/log/err" || [ "$(wc -l <"$WORK/log/err")" -ne 1 ]; then
+    if [ "$status" -ne 3 ] || [ -s "$WORK/listing" ] || ! grep -qE "^(draw|sketch|histories|histories-against): $says${3-}: " "$WORK/log/err" || [ "$(wc -l <"$WORK/log/err")" -ne 1 ]; then
         echo "commands: $2: status $status, $(cat "$WORK/log/err")"
         failed=1
     fi
 }
 
-for each in arguments files links output image drawing proving failing library two_at_a_time; do
+for each in arguments files links output image drawing histories_arguments histories against against_no_bench proving failing library two_at_a_time; do
     group "$each"
 done
 if [ -e /dev/full ]; then

@@ -55,11 +55,11 @@ has_sanitizers() {
 }
 
 sanitized() {
-    gcc -std=c11 $strict $sanitize "$1.c" "$archive" -o "$log/sanitized" && "$log/sanitized" >"$log/listing"
+    gcc -std=c11 $strict $sanitize "$1.c" "$archive" -o "$log/sanitized" && "$log/sanitized" <examples/plot.txt >"$log/listing"
 }
 
 under_valgrind() {
-    valgrind --quiet --error-exitcode=9 --leak-check=full "$log/$1" >"$log/listing"
+    valgrind --quiet --error-exitcode=9 --leak-check=full "$log/$1" <examples/plot.txt >"$log/listing"
 }
 
 # cargo in a folder, with the archive: FOLDER, then cargo's arguments.
@@ -75,6 +75,37 @@ clippy() {
 
 bench_prints() {
     bin/bench examples/plot.txt | diff examples/plot.out - && bin/bench examples/clocks.txt | diff examples/clocks.out -
+}
+
+# examples/build.c beside the bench: inputs with every kind of line, and bad plots.
+build_prints() {
+    local input
+    for input in examples/plot.txt examples/clocks.txt crates/bench_cases/data/*; do
+        bin/bench "$input" >"$log/listing"
+        "$log/build" <"$input" | cmp "$log/listing" - && "$log/build.cpp" <"$input" | cmp "$log/listing" - || return 1
+    done
+}
+
+# A build that agrees on every history; and one that is wrong on purpose, which shows from 3 events on, and first in the history that is named.
+histories_agree() {
+    bin/histories-against "$log/build" 3 3 | diff <(echo "312 of 312 histories agree") - &&
+        bin/histories-against "$log/build" 2 5 | diff <(echo "128 of 128 histories agree") - &&
+        bin/histories-against "$log/build" 3 2 wrong | diff <(echo "42 of 42 histories agree") -
+}
+
+wrong_found() { # N NUMBER COUNT
+    local status=0
+    bin/histories-against "$log/build" "$1" 3 wrong >"$log/listing" || status=$?
+    [ "$status" = 4 ] && head -n 5 "$log/listing" | diff <(printf '%s\n' "history $2 of $3 differs:" "N $1" "U 1 2" "U 2 1" "M 2 1") - &&
+        grep -x '3 0 R 1' "$log/listing" && grep -x '3 0 Q 0' "$log/listing"
+}
+
+wrongs_found() {
+    wrong_found 2 4 16 && wrong_found 3 16 312
+}
+
+histories_print() {
+    bin/histories 2 2 | diff examples/histories.txt -
 }
 
 # What a part of examples/plot.image is said to be, and the status of that.
@@ -114,6 +145,7 @@ else
 fi
 step "bin/bench prints examples/plot.out and clocks.out" bench_prints
 step "bin/image shows examples/plot.image, and refuses its parts by their numbers" image_shows
+step "bin/histories prints examples/histories.txt" histories_print
 step "bin/: arguments, files, links, devices, proving and progress (tests/commands.sh)" bash tests/commands.sh
 grep '^tests: NOT RUN' "$log/step" || true
 if bash tests/graphviz.sh has; then
@@ -123,7 +155,7 @@ else
 fi
 step "the archive for C and Rust (bin/install)" bin/install "$log/installed"
 if gcc --version >"$log/step" 2>&1 && g++ --version >"$log/step" 2>&1; then
-    programs="examples/logger examples/six examples/devices tests/c/header tests/c/groups tests/c/heights tests/c/links tests/c/drawing"
+    programs="examples/logger examples/six examples/devices examples/build tests/c/header tests/c/groups tests/c/heights tests/c/links tests/c/drawing tests/c/histories"
     for program in $programs; do
         step "$program.c compiles without a warning, as C and as C++" compiles "$program"
     done
@@ -140,6 +172,11 @@ if gcc --version >"$log/step" 2>&1 && g++ --version >"$log/step" 2>&1; then
     step "heights compared: the same as C++" "$log/heights.cpp"
     step "drawings and sketches, by hand and beside the same worked out another way (tests/c/drawing.c)" "$log/drawing"
     step "drawings and sketches: the same as C++" "$log/drawing.cpp"
+    step "all short histories beside the same worked out another way (tests/c/histories.c)" "$log/histories"
+    step "all short histories: the same as C++" "$log/histories.cpp"
+    step "examples/build.c prints what the bench prints" build_prints
+    step "bin/histories-against: examples/build.c agrees on every history" histories_agree
+    step "bin/histories-against: examples/build.c wrong on purpose is found out, at the right history" wrongs_found
     step "bin/image shows what decides each link of a planted plot (tests/c/links.c)" links_shown
     step "tests/c/stack.c compiles without a warning" compiles tests/c/stack -pthread -Wl,-z,now
     step "no call takes more stack than include/election.h says (tests/c/stack.c)" "$log/stack"

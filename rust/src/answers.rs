@@ -52,6 +52,8 @@ pub enum Refusal {
         /// The station that the view or the channel is of; `at` itself for its own height.
         with: u32,
     },
+    /// 19: histories of more than 3 stations, or of more than 5 events.
+    TooLarge,
     /// A number that this crate does not know, from a newer library.
     Other(u32),
 }
@@ -77,6 +79,7 @@ impl Refusal {
             Refusal::SketchForm => 16,
             Refusal::SketchLink => 17,
             Refusal::Untimely { .. } => 18,
+            Refusal::TooLarge => 19,
             Refusal::Other(number) => number,
         }
     }
@@ -102,6 +105,7 @@ impl Refusal {
             16 => Refusal::SketchForm,
             17 => Refusal::SketchLink,
             18 => Refusal::Untimely { at, with },
+            19 => Refusal::TooLarge,
             other => Refusal::Other(other),
         })
     }
@@ -132,6 +136,7 @@ impl fmt::Display for Refusal {
                     "18: a time is later than its clock or stamp at {at} {with}"
                 )
             }
+            Refusal::TooLarge => "histories are listed up to 3 stations and 5 events",
             Refusal::Other(_) => "a number that this crate does not know",
         };
         write!(f, "{}: {why}", self.number())
@@ -436,7 +441,7 @@ mod tests {
     /// A newer library may answer a number or a letter that is not known here.
     #[test]
     fn unknown_numbers_and_letters() {
-        for number in [15, 19, u32::MAX] {
+        for number in [15, 20, u32::MAX] {
             let newer = ffi::Answer { number, ..DONE };
             assert_eq!(Step::of(newer), Err(Refusal::Other(number)));
             assert_eq!(Refusal::Other(number).number(), number);
@@ -475,7 +480,7 @@ mod tests {
         for number in 1..=20 {
             let refusal = Refusal::check(number, 1, 2).unwrap_err();
             assert_eq!(refusal.number(), number);
-            let known = (1..=18).contains(&number) && number != 15;
+            let known = (1..=19).contains(&number) && number != 15;
             assert_eq!(refusal != Refusal::Other(number), known);
         }
         let (at, with) = (1, 2);

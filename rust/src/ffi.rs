@@ -39,6 +39,17 @@ pub struct Saved {
     pub size: u64,
 }
 
+/// What a list of histories answers.
+#[repr(C)]
+#[derive(Clone, Copy, Debug, PartialEq, Eq)]
+pub struct Listed {
+    pub number: u32,
+    pub fault_at: u32,
+    pub fault_with: u32,
+    pub histories: u32,
+    pub size: u64,
+}
+
 /// What a look at one station answers.
 #[repr(C)]
 #[derive(Clone, Copy, Debug, PartialEq, Eq)]
@@ -103,6 +114,7 @@ unsafe extern "C" {
     safe fn election_row_len(n: u32) -> usize;
     safe fn election_image_len(n: u32) -> usize;
     safe fn election_drawing_len(n: u32) -> usize;
+    safe fn election_histories_len(n: u32, length: u32) -> usize;
     safe fn election_compare(a: Height, b: Height) -> Comparison;
     fn election_fresh(
         n: u32,
@@ -163,6 +175,7 @@ unsafe extern "C" {
         out: *mut u8,
         out_len: usize,
     ) -> Saved;
+    fn election_histories(n: u32, length: u32, out: *mut u8, out_len: usize) -> Listed;
     fn election_sketch_stations(text: *const u8, text_len: usize) -> u32;
     fn election_read_sketch(
         text: *const u8,
@@ -240,6 +253,11 @@ pub fn drawing_len(n: u32) -> usize {
     election_drawing_len(n)
 }
 
+/// The bytes of a list of histories.
+pub fn histories_len(n: u32, length: u32) -> usize {
+    election_histories_len(n, length)
+}
+
 /// Which height is the larger, and where they part.
 pub fn compare(a: Height, b: Height) -> Comparison {
     election_compare(a, b)
@@ -292,6 +310,11 @@ pub fn save(n: u32, nodes: &[u32], channels: &[u32], out: &mut [u8]) -> Saved {
 pub fn draw(n: u32, nodes: &[u32], channels: &[u32], out: &mut [u8]) -> Saved {
     let (a, b, room) = (nodes.as_ptr(), channels.as_ptr(), out.len());
     unsafe { election_draw(n, a, nodes.len(), b, channels.len(), out.as_mut_ptr(), room) }
+}
+
+/// The list of histories goes to the front of `out`.
+pub fn histories(n: u32, length: u32, out: &mut [u8]) -> Listed {
+    unsafe { election_histories(n, length, out.as_mut_ptr(), out.len()) }
 }
 
 /// The number of stations of a sketch; 0 for a text that is none.

@@ -21,6 +21,8 @@ use crate::answers::{Group, Record, Refusal, Stations, Step};
 use crate::ffi;
 use crate::view::Station;
 
+pub use crate::histories::{histories, histories_len, inputs, Inputs, Listed, HISTORIES_MOST};
+
 /// The most stations that a plot can have.
 pub const MAX_STATIONS: u32 = 16;
 

@@ -20,6 +20,7 @@ extern crate std;
 
 mod answers;
 mod ffi;
+mod histories;
 pub mod lent;
 #[cfg(feature = "std")]
 mod plot;

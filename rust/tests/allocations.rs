@@ -1,7 +1,7 @@
-//! Reading a plot allocates nothing.
+//! Reading a plot allocates nothing, nor does listing histories.
 #![cfg(feature = "std")]
 
-use plot_election::Plot;
+use plot_election::{lent, Plot};
 use std::alloc::{GlobalAlloc, Layout, System};
 use std::cell::Cell;
 use std::hint::black_box;
@@ -62,4 +62,15 @@ fn none_to_read() {
     // what does allocate is counted
     assert_eq!(allocations(|| drop(black_box(plot.save()))), 1);
     assert_eq!(allocations(|| drop(black_box(plot.clone()))), 2);
+}
+
+#[test]
+fn none_to_list() {
+    let mut out = [0; lent::histories_len(3, 3)];
+    let listing = || {
+        let listed = lent::histories(3, 3, &mut out).unwrap();
+        assert_eq!(lent::inputs(&out[..listed.bytes]).count(), 312);
+        assert!(lent::histories(4, 3, &mut out).is_err());
+    };
+    assert_eq!(allocations(listing), 0);
 }

@@ -2,6 +2,7 @@
  * A line for each thing that is wrong, and exit status 1. Compiles as C11 and as C++17.
  */
 #include <inttypes.h>
+#include <stddef.h>
 #include <stdio.h>
 #include <string.h>
 
@@ -110,6 +111,14 @@ static void sizes(void) {
         CHECK(ELECTION_IMAGE_MAX(others[i]) == 0 && election_image_len(others[i]) == 0);
         CHECK(ELECTION_DRAWING_MAX(others[i]) == 0 && election_drawing_len(others[i]) == 0);
     }
+    const uint32_t counts[3][6] = {{1, 0, 0, 0, 0, 0}, {1, 2, 6, 16, 46, 128}, {1, 6, 42, 312, 2418, 19254}};
+    for (uint32_t n = 0; n <= 17; n++)
+        for (uint32_t length = 0; length <= 7; length++)
+            CHECK(election_histories_len(n, length) == (n < 1 || n > 3 || length > 5 ? 0 : counts[n - 1][length] * (4 + 6 * (size_t)length)));
+    CHECK(ELECTION_HISTORIES_MOST == 654636 && election_histories_len(3, 5) == ELECTION_HISTORIES_MOST);
+    CHECK(election_histories_len(LAST_TIME, 0) == 0 && election_histories_len(3, LAST_TIME) == 0);
+    CHECK(offsetof(election_listed, number) == 0 && offsetof(election_listed, fault_at) == 4 && offsetof(election_listed, fault_with) == 8);
+    CHECK(offsetof(election_listed, histories) == 12 && offsetof(election_listed, size) == 16 && sizeof(election_listed) == 24);
     CHECK(sizeof image == 34044 && ELECTION_CELL_LEN == 65 && ELECTION_MESSAGE_LEN == 8);
     CHECK(ELECTION_DRAWING_MAX(1) == 22 && ELECTION_DRAWING_MAX(9) == 422 && ELECTION_DRAWING_MAX(10) == 527 && ELECTION_DRAWING_MAX(16) == 1409);
     CHECK(ELECTION_VERSION == ELECTION_VERSION_MAJOR * 1000000 + ELECTION_VERSION_MINOR * 1000 + ELECTION_VERSION_PATCH);
@@ -117,15 +126,16 @@ static void sizes(void) {
 
 static void lines(void) {
     const char *other = election_strerror(0xffffffffu);
-    for (uint32_t a = ELECTION_DONE; a <= ELECTION_UNTIMELY; a++) {
+    for (uint32_t a = ELECTION_DONE; a <= ELECTION_TOO_LARGE; a++) {
         if (a == 15) /* the bench's */
             continue;
         CHECK(strlen(election_strerror(a)) > 10 && strcmp(election_strerror(a), other) != 0);
         for (uint32_t b = ELECTION_DONE; b < a; b++)
             CHECK(strcmp(election_strerror(a), election_strerror(b)) != 0);
     }
-    CHECK(strcmp(election_strerror(15), other) == 0 && strcmp(election_strerror(ELECTION_UNTIMELY + 1), other) == 0);
+    CHECK(strcmp(election_strerror(15), other) == 0 && strcmp(election_strerror(ELECTION_TOO_LARGE + 1), other) == 0);
     CHECK(ELECTION_ROOM == 14 && ELECTION_SKETCH_FORM == 16 && ELECTION_SKETCH_LINK == 17 && ELECTION_UNTIMELY == 18);
+    CHECK(ELECTION_TOO_LARGE == 19);
 }
 
 /* ---- the inline functions */
@@ -388,6 +398,23 @@ static void order_of_times(void) {
     CHECK(faulty(check(3), 3, 3));
 }
 
+/* ---- histories: 1, 19, 14, and then the fields in their order */
+
+static int not_listed(election_listed l, uint32_t number) {
+    return l.number == number && l.fault_at == 0 && l.fault_with == 0 && l.histories == 0 && l.size == 0 && image[0] == '#';
+}
+
+static void order_of_histories(void) {
+    image[0] = '#';
+    CHECK(not_listed(election_histories(0, 6, image, 0), ELECTION_SIZES) && not_listed(election_histories(17, 6, image, 0), ELECTION_SIZES));
+    CHECK(not_listed(election_histories(4, 0, image, 0), ELECTION_TOO_LARGE) && not_listed(election_histories(16, 6, image, 0), ELECTION_TOO_LARGE));
+    CHECK(not_listed(election_histories(1, 6, image, 0), ELECTION_TOO_LARGE) && not_listed(election_histories(3, 6, image, 0), ELECTION_TOO_LARGE));
+    CHECK(not_listed(election_histories(3, 1, image, 59), ELECTION_ROOM) && not_listed(election_histories(3, 0, image, 3), ELECTION_ROOM));
+    election_listed l = election_histories(3, 1, image, 60);
+    CHECK(l.number == ELECTION_DONE && l.fault_at == 0 && l.fault_with == 0 && l.histories == 6 && l.size == 60);
+    CHECK(memcmp(image, "N 3\nU 1 2\nN 3\nU 1 3\n", 20) == 0 && memcmp(image + 50, "N 3\nU 3 2\n", 10) == 0);
+}
+
 int main(void) {
     sizes();
     lines();
@@ -401,5 +428,6 @@ int main(void) {
     order_of_faults();
     order_of_images();
     order_of_times();
+    order_of_histories();
     return failures == 0 ? 0 : 1;
 }

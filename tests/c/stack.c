@@ -1,8 +1,9 @@
 /* How much stack each call takes at n = 16: a thread's stack is painted below this program's frames, the call is made, and the deepest
  * word that lost its paint is looked for. Each call runs on plots that are fresh, half full, full, untimely in the last stamp, and faulty in
- * the last word.
+ * the last word. The lists of histories are the longest ones, of n = 3, which have a limit of their own.
  * Link with -Wl,-z,now: else the first memmove is looked up at run time, on this stack.
- * Prints the largest depth of each call; exit status 1 if one is above what include/election.h says, or if a call was not measured.
+ * Prints the largest depth of each call; exit status 1 if one is above what include/election.h says, if a call was not measured, or if no list is
+ * made.
  */
 #include <pthread.h>
 #include <stdio.h>
@@ -10,20 +11,23 @@
 
 #include "election.h"
 
-enum { N = ELECTION_MAX_STATIONS, PAINTED = 64 * 1024, MARGIN = 4096, CALLS = 20 };
+enum { N = ELECTION_MAX_STATIONS, PAINTED = 64 * 1024, MARGIN = 4096, CALLS = 22, LENGTH = 5 };
 enum { NODES = ELECTION_NODES_LEN(N), CHANNELS = ELECTION_CHANNELS_LEN(N), ROW = ELECTION_ROW_LEN(N), IMAGE = ELECTION_IMAGE_MAX(N) };
-enum { DRAWING = ELECTION_DRAWING_MAX(N) };
+enum { DRAWING = ELECTION_DRAWING_MAX(N), MOST = ELECTION_STACK_MAX };
 static const uint64_t PAINT = 0xa5a5a5a5a5a5a5a5u;
 
 static uint32_t nodes[NODES], channels[CHANNELS], row[ROW];
 static uint32_t spare_nodes[NODES], spare_channels[CHANNELS];
 static uint8_t image[IMAGE], out[IMAGE], drawing[DRAWING], sketch[DRAWING];
+static uint8_t list[ELECTION_HISTORIES_MOST];
 static size_t image_len, sketch_len;
 static volatile uint64_t seen;
 
 /* ---- the calls */
 
 static void nothing(void) { seen = 0; }
+static void histories_len(void) { seen = election_histories_len(3, LENGTH); }
+static void histories(void) { seen = election_histories(3, LENGTH, list, sizeof list).size; }
 static void lengths(void) { seen = election_nodes_len(N) + election_channels_len(N) + election_row_len(N) + election_image_len(N) + election_drawing_len(N); }
 static void check(void) { seen = election_check(N, nodes, NODES, channels, CHANNELS).number; }
 static void up(void) { seen = election_up(N, 1, 2, nodes, NODES, channels, CHANNELS).number; }
@@ -47,11 +51,29 @@ static void fresh(void) { seen = election_fresh(N, spare_nodes, NODES, spare_cha
 static const struct {
     const char *name;
     void (*call)(void);
-} calls[CALLS] = {{"lengths", lengths}, {"fresh", fresh},     {"check", check},         {"down", down},
-                  {"up", up},           {"receive", receive}, {"receive", receive_last}, {"quiet", quiet},
-                  {"groups", groups},   {"group_of", group_of}, {"save", save},          {"image_stations", image_stations},
-                  {"restore", restore}, {"read_node", read_node}, {"down", down_last},   {"up", up},
-                  {"compare", compare}, {"draw", draw},       {"sketch_stations", sketch_stations}, {"read_sketch", read_sketch}};
+    size_t most;
+} calls[CALLS] = {{"lengths", lengths, MOST},
+                  {"fresh", fresh, MOST},
+                  {"check", check, MOST},
+                  {"down", down, MOST},
+                  {"up", up, MOST},
+                  {"receive", receive, MOST},
+                  {"receive", receive_last, MOST},
+                  {"quiet", quiet, MOST},
+                  {"groups", groups, MOST},
+                  {"group_of", group_of, MOST},
+                  {"save", save, MOST},
+                  {"image_stations", image_stations, MOST},
+                  {"restore", restore, MOST},
+                  {"read_node", read_node, MOST},
+                  {"down", down_last, MOST},
+                  {"up", up, MOST},
+                  {"compare", compare, MOST},
+                  {"draw", draw, MOST},
+                  {"sketch_stations", sketch_stations, MOST},
+                  {"read_sketch", read_sketch, MOST},
+                  {"histories_len", histories_len, ELECTION_HISTORIES_STACK},
+                  {"histories", histories, ELECTION_HISTORIES_STACK}};
 
 /* ---- the painted stack */
 
@@ -151,7 +173,7 @@ int main(void) {
     int wrong = 0;
     for (size_t i = 0; i < CALLS; i++) {
         printf("%s %zu\n", calls[i].name, deepest[i]);
-        wrong |= deepest[i] > ELECTION_STACK_MAX || deepest[i] == 0;
+        wrong |= deepest[i] > calls[i].most || deepest[i] == 0;
     }
-    return wrong;
+    return wrong || election_histories_len(3, LENGTH) != sizeof list || list[sizeof list - 1] != '\n';
 }

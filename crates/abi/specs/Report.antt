@@ -1,10 +1,11 @@
--- The structs of include/election.h, read as what the calls say (crates height, protocol, lent, groups, image_snapshot, drawing).
+-- The structs of include/election.h, read as what the calls say (crates height, protocol, lent, groups, image_snapshot, drawing, histories).
 -- Field by field. `sent` of an event's answer is not in what it says: it is the ones of the set. Nor is `collector` of a group's.
 use Prim.Native.Nat.{ℕ}
 use Rattle.groups.specs.declared.Group.{Group}
 use Rattle.height.specs.Comparison.{Comparison, signAt}
 use Rattle.height.specs.Words.{leaderPairOf}
 use Rattle.height.specs.declared.Height.{Height}
+use Rattle.histories.specs.ListOn.{Extent, extent}
 use Rattle.image_reader.specs.declared.NodeRecord.{NodeRecord}
 use Rattle.protocol.specs.Answer.{Said}
 use Rattle.refusal.specs.Outcome.{Answered}
@@ -16,6 +17,7 @@ use Rattle.abi.specs.declared.GivenHeight.{GivenHeight}
 use Rattle.abi.specs.declared.GroupReport.{GroupReport}
 use Rattle.abi.specs.declared.NodeReport.{NodeReport}
 use Rattle.abi.specs.declared.ComparisonReport.{ComparisonReport}
+use Rattle.abi.specs.declared.ListReport.{ListReport}
 use Rattle.abi.specs.declared.SaveReport.{SaveReport}
 use Rattle.abi.specs.declared.ValueReport.{ValueReport}
 
@@ -35,6 +37,9 @@ saidCheckReport a = why (a .number) (a .«fault_at») (a .«fault_with»)
 
 abbrev pub saidSaveReport : SaveReport → Answered ℕ
 saidSaveReport a = record { why = why (a .number) (a .«fault_at») (a .«fault_with»); value = a .size }
+
+abbrev pub saidListReport : ListReport → Answered Extent
+saidListReport a = record { why = why (a .number) (a .«fault_at») (a .«fault_with»); value = extent (a .size) (a .histories) }
 
 abbrev pub saidNodeReport : NodeReport → Answered NodeRecord
 saidNodeReport a = record {

@@ -1,4 +1,4 @@
-// The calls for C and Rust (include/election.h): those of `lent`, `election`, `groups`, `image_snapshot`, `drawing` and the comparison of
+// The calls for C and Rust (include/election.h): those of `lent`, `election`, `groups`, `image_snapshot`, `drawing`, `histories` and the comparison of
 // `height`, with a plain struct as the answer.
 // Every call takes anything; its contract is the equation of the call that it makes.
 ghost use mathlib.Core.Path.{_≡_};
@@ -11,6 +11,7 @@ ghost use Rattle.groups.specs.Groups.{theOne};
 ghost use Rattle.groups.specs.Heads.{headsOn};
 ghost use Rattle.groups.specs.Quiet.{quietOn};
 ghost use Rattle.height.specs.Comparison.{comparison};
+ghost use Rattle.histories.specs.ListOn.{listOn, listLength};
 ghost use Rattle.image_snapshot.specs.Count.{countOn};
 ghost use Rattle.image_snapshot.specs.ReadNode.{readNodeOn};
 ghost use Rattle.image_snapshot.specs.Restore.{restoreOn};
@@ -20,7 +21,7 @@ ghost use Rattle.lent.specs.Fresh.{freshOn};
 ghost use Rattle.protocol.specs.Step.{up, down, receive};
 ghost use Rattle.refusal.specs.Outcome.{outcome};
 ghost use Rattle.tables.specs.Tables.{atEntry, atExit};
-ghost use Rattle.abi.specs.Report.{saidReport, saidCheckReport, saidSaveReport, saidNodeReport, saidValueReport, saidGroupReport, saidComparisonReport, heightGiven};
+ghost use Rattle.abi.specs.Report.{saidReport, saidCheckReport, saidSaveReport, saidNodeReport, saidValueReport, saidGroupReport, saidComparisonReport, saidListReport, heightGiven};
 ghost use Rattle.abi.specs.Sizes.{isSize, nodesLength, channelsLength, rowLength, imageLength};
 
 mod reports;
@@ -54,6 +55,16 @@ pub struct SaveReport {
     pub number: u32,
     pub fault_at: u32,
     pub fault_with: u32,
+    pub size: u64,
+}
+
+// What a list of histories answers: election_listed.
+#[repr(C)]
+pub struct ListReport {
+    pub number: u32,
+    pub fault_at: u32,
+    pub fault_with: u32,
+    pub histories: u32,
     pub size: u64,
 }
 
@@ -171,6 +182,14 @@ pub extern "C" fn election_drawing_len(n: u32) -> usize
     ensures { λ r. ⌜ r ≡ drawingLength n ⌝ }
 {
     drawing::drawing_length(n)
+}
+
+// Bytes of a list of histories.
+#[no_mangle]
+pub extern "C" fn election_histories_len(n: u32, length: u32) -> usize
+    ensures { λ r. ⌜ r ≡ listLength n length ⌝ }
+{
+    histories::list_length(n, length)
 }
 
 // ---- tables
@@ -346,6 +365,16 @@ pub extern "C" fn election_read_sketch(
     ensures { λ r. ⌜ outcome (saidCheckReport r) (atExit nodes channels) ≡ readOn (now (text .entry)) (atEntry nodes channels) ⌝ }
 {
     reports::of_check(drawing::read(text, nodes, channels))
+}
+
+// ---- histories
+
+// The list of all histories of a length goes to the front of `out`.
+#[no_mangle]
+pub extern "C" fn election_histories(n: u32, length: u32, out: &mut [u8]) -> ListReport
+    ensures { λ r. ⌜ outcome (saidListReport r) (now (out .exit)) ≡ listOn n length (now (out .entry)) ⌝ }
+{
+    reports::of_list(histories::list(n, length, out))
 }
 
 // ---- heights

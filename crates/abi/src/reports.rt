@@ -5,6 +5,7 @@ ghost use lib.Count.{ones};
 ghost use Rattle.drawing.specs.Draw.{saidDrawn};
 ghost use Rattle.height.specs.Comparison.{saidOrder};
 ghost use Rattle.height.specs.Height.{zeroLevel};
+ghost use Rattle.histories.specs.ListOn.{extent, saidListed};
 ghost use Rattle.image_reader.specs.Record.{saidNode, noNode};
 ghost use Rattle.groups.specs.Group.{saidGroup, noGroup};
 ghost use Rattle.groups.specs.Groups.{theOne};
@@ -16,12 +17,13 @@ ghost use Rattle.nodeset.specs.NodeSet.{digit};
 ghost use Rattle.lent.specs.Check.{saidCheck};
 ghost use Rattle.protocol.specs.Answer.{said, saidRule, carriedOut, saidRefused};
 ghost use Rattle.refusal.specs.Refusal.{why};
-ghost use Rattle.abi.specs.Report.{saidReport, saidCheckReport, saidSaveReport, saidNodeReport, saidValueReport, saidGroupReport, saidComparisonReport, heightGiven};
+ghost use Rattle.abi.specs.Report.{saidReport, saidCheckReport, saidSaveReport, saidNodeReport, saidValueReport, saidGroupReport, saidComparisonReport, saidListReport, heightGiven};
 use super::AnswerReport;
 use super::CheckReport;
 use super::ComparisonReport;
 use super::GivenHeight;
 use super::GroupReport;
+use super::ListReport;
 use super::NodeReport;
 use super::SaveReport;
 use super::ValueReport;
@@ -34,6 +36,7 @@ use height::Height;
 use height::ReferenceLevel;
 use height::Time;
 use height::order::Order;
+use histories::Listed;
 use image_reader::NodeRead;
 use image_reader::NodeRecord;
 use image_snapshot::CountRead;
@@ -173,6 +176,29 @@ pub fn of_drawn(answer: Drawn) -> SaveReport
     match answer {
         Drawn::Written(size) => saved(accepted(), size),
         Drawn::Refused(why) => saved(refusal::said(why), 0),
+    }
+}
+
+// ---- lists of histories
+
+fn listed(w: Why, size: usize, histories: u32) -> ListReport
+    ensures { λ r. ⌜ saidListReport r ≡ record { why = w; value = extent size histories } ⌝ }
+{
+    ListReport {
+        number: w.number,
+        fault_at: w.u,
+        fault_with: w.v,
+        histories: histories,
+        size: size as u64,
+    }
+}
+
+pub fn of_list(answer: Listed) -> ListReport
+    ensures { λ r. ⌜ saidListReport r ≡ saidListed answer ⌝ }
+{
+    match answer {
+        Listed::Written(size, histories) => listed(accepted(), size, histories),
+        Listed::Refused(why) => listed(refusal::said(why), 0, 0),
     }
 }
 

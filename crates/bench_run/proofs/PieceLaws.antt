@@ -7,12 +7,8 @@ use lib.ListN.{length, length-append}
 use lib.Count.{ones}
 use Rattle.protocol.specs.Answer.{Said}
 use Rattle.text.specs.Text.{decimal}
-use Rattle.text.proofs.TextLaws.{length-decimal-le}
+use Rattle.text.proofs.TextLaws.{number-le}
 use Rattle.bench_run.specs.Listing.{eventLine, saidLine, stationLine}
-
--- a number and the byte behind it are at most eleven bytes
-pub number-le : (x e : ℕ) → length (decimal x ++ (e ∷ [])) ≤ 11
-number-le x e = omega (arith, length-append (decimal x) (e ∷ []), length-decimal-le x)
 
 -- the lines as pieces
 pub event-pieces : (k code letter sent : ℕ)

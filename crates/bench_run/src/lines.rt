@@ -4,7 +4,6 @@ ghost use mathlib.Core.Path.{_≡_};
 ghost use Prim.Native.Nat.{_+_, _^_, _≤_, _<_};
 ghost use lib.ListN.{length};
 ghost use Rattle.protocol.specs.Answer.{said};
-ghost use Rattle.text.specs.Text.{decimal};
 ghost use Rattle.text.specs.inner.Poured.{poured};
 ghost use Rattle.bench_run.specs.Listing.{eventHead, stationHead, badPlot, eventLine, saidLine, stationLine};
 use protocol::Answer;
@@ -29,35 +28,16 @@ pub fn put_bad_plot(out: &mut [u8]) -> usize
     text::put_bytes(out, 0, b"bad plot\n")
 }
 
-// A number in decimal, and the byte that ends it.
-fn put_number(out: &mut [u8], at: usize, x: u32, end: u8) -> usize
-    requires { ⌜ at < 2 ^ 31 ⌝ }
-    ensures { λ r. ⌜ (now (out .exit) ≡ poured (now (out .entry)) at (decimal x ++ (end ∷ [])))
-        × (r ≡ at + length (decimal x ++ (end ∷ []))) × (r ≤ at + 11) ⌝ }
-{
-    let behind = text::put_decimal(out, at, x);
-    text::put_byte(out, behind, end)
-}
-
-// A letter and a space.
-fn put_letter(out: &mut [u8], at: usize, letter: u8) -> usize
-    requires { ⌜ at < 2 ^ 31 ⌝ }
-    ensures { λ r. ⌜ (now (out .exit) ≡ poured (now (out .entry)) at (letter ∷ 32 ∷ [])) × (r ≡ at + 2) ⌝ }
-{
-    let behind = text::put_byte(out, at, letter);
-    text::put_byte(out, behind, b' ')
-}
-
 // Number, returned number, rule or dash, messages sent.
 pub fn put_event(out: &mut [u8], at: usize, k: u32, code: u32, letter: u8, sent: u32) -> usize
     requires { ⌜ at < 2 ^ 30 ⌝ }
     ensures { λ r. ⌜ (now (out .exit) ≡ poured (now (out .entry)) at (eventLine k code letter sent))
         × (r ≡ at + length (eventLine k code letter sent)) × (r ≤ at + 35) ⌝ }
 {
-    let a = put_number(out, at, k, b' ');
-    let b = put_number(out, a, code, b' ');
-    let c = put_letter(out, b, letter);
-    put_number(out, c, sent, b'\n')
+    let a = text::put_number(out, at, k, b' ');
+    let b = text::put_number(out, a, code, b' ');
+    let c = text::put_letter(out, b, letter);
+    text::put_number(out, c, sent, b'\n')
 }
 
 // The line of an event's answer.
@@ -82,7 +62,7 @@ pub fn put_station(out: &mut [u8], at: usize, u: u32, leader: u32, clock: u32) -
     ensures { λ r. ⌜ (now (out .exit) ≡ poured (now (out .entry)) at (stationLine u leader clock))
         × (r ≡ at + length (stationLine u leader clock)) × (r ≤ at + 33) ⌝ }
 {
-    let a = put_number(out, at, u, b' ');
-    let b = put_number(out, a, leader, b' ');
-    put_number(out, b, clock, b'\n')
+    let a = text::put_number(out, at, u, b' ');
+    let b = text::put_number(out, a, leader, b' ');
+    text::put_number(out, b, clock, b'\n')
 }

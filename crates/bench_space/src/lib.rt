@@ -1,4 +1,4 @@
-// Room for an input, one byte more than the longest, to tell a longer one; and room for every listing.
+// Room for an input, one byte more than the longest, to tell a longer one; for every listing; and for every list of short histories (`histories_list`, proofs/Room.antt).
 // Assumes what the programs assume: the contracts of the C functions (docs/TRUST.md, 5).
 ghost use mathlib.Core.Path.{_≡_};
 ghost use lib.ListN.{length};
@@ -16,7 +16,14 @@ pub fn output() -> [u8; 1048576]
     [0; 1048576]
 }
 
-fn write(out: &[u8], size: usize) {
+pub fn histories() -> [u8; 654636]
+    ensures { λ r. ⌜ 654636 ≡ length r ⌝ }
+{
+    [0; 654636]
+}
+
+// The first `size` bytes, to standard output.
+pub fn write(out: &[u8], size: usize) {
     if size <= out.len() {
         io::write_all(1, &out[..size]);
     }

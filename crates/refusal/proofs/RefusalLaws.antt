@@ -2,13 +2,13 @@
 -- `reasonFrom` is the way back.
 use Prim.Native.Nat.{ℕ}
 use mathlib.Core.Bool.{false, cond}
-use mathlib.Core.List.{[], _∷_}
+use mathlib.Core.List.{List, [], _∷_}
 use mathlib.Core.Path.{_≡_, refl, sym, ap, _∙_}
 use lib.Dec.{eqb}
 use denote.Enum.Declared.{tagOf}
 use types.Run.{OneOf, miss}
 use Rattle.refusal.specs.Refusal.{why, whyOf}
-use Rattle.refusal.specs.declared.Refusal.the-variants.{ChannelFull, TooShort, BadHeader, BadEnd, NotPlace, NoRoom, Malformed, NotSketch, BadLink, Untimely}
+use Rattle.refusal.specs.declared.Refusal.the-variants.{ChannelFull, TooShort, BadHeader, BadEnd, NotPlace, NoRoom, Malformed, NotSketch, BadLink, Untimely, TooLarge}
 use Rattle.refusal.specs.declared.Refusal.the-variants.{Sizes, Fault, NodeNumber, AlreadyUp, AlreadyDown, NoMessage, ClockEnd, DeltaEnd}
 use Rattle.refusal.specs.declared.Refusal.{Refusal}
 use Rattle.refusal.specs.declared.Why.{Why}
@@ -21,7 +21,7 @@ reasonFrom w =
     (cond (eqb (w .number) 7) ClockEnd (cond (eqb (w .number) 8) DeltaEnd (cond (eqb (w .number) 9) ChannelFull
     (cond (eqb (w .number) 10) TooShort (cond (eqb (w .number) 11) BadHeader (cond (eqb (w .number) 12) BadEnd
     (cond (eqb (w .number) 13) NotPlace (cond (eqb (w .number) 14) NoRoom (cond (eqb (w .number) 15) Malformed
-    (cond (eqb (w .number) 16) NotSketch (cond (eqb (w .number) 17) BadLink (Untimely (w .u) (w .v))))))))))))))))))
+    (cond (eqb (w .number) 16) NotSketch (cond (eqb (w .number) 17) BadLink (cond (eqb (w .number) 18) (Untimely (w .u) (w .v)) TooLarge)))))))))))))))))
 
 pub reason-back : (r : Refusal) → reasonFrom (whyOf r) ≡ r
 unfolding reasonFrom
@@ -43,6 +43,7 @@ reason-back Malformed = refl
 reason-back NotSketch = refl
 reason-back BadLink = refl
 reason-back (Untimely u v) = refl
+reason-back TooLarge = refl
 
 pub why-injective : (r s : Refusal) → whyOf r ≡ whyOf s → r ≡ s
 why-injective r s e = sym (reason-back r) ∙ (ap reasonFrom e ∙ reason-back s)
@@ -67,35 +68,46 @@ never-0 Malformed = refl
 never-0 NotSketch = refl
 never-0 BadLink = refl
 never-0 (Untimely u v) = refl
+never-0 TooLarge = refl
 
 -- ---- reasons without a pair: all but 2 and 18
 
-abbrev pub Pairless : Refusal → Type 0
-Pairless r = OneOf (0 ∷ 2 ∷ 3 ∷ 4 ∷ 5 ∷ 6 ∷ 7 ∷ 8 ∷ 9 ∷ 10 ∷ 11 ∷ 12 ∷ 13 ∷ 14 ∷ 15 ∷ 16 ∷ []) (tagOf reasons.the-type r)
+abbrev butFault : List ℕ
+butFault = 0 ∷ 2 ∷ 3 ∷ 4 ∷ 5 ∷ 6 ∷ 7 ∷ 8 ∷ 9 ∷ 10 ∷ 11 ∷ 12 ∷ 13 ∷ 14 ∷ 15 ∷ 16 ∷ 17 ∷ 18 ∷ []
 
-pairless-said : (r : Refusal) → Pairless r → why (whyOf r .number) 0 0 ≡ whyOf r
-pairless-said Sizes k = refl
-pairless-said (Fault u v) k = absurd (miss (0 ∷ 2 ∷ 3 ∷ 4 ∷ 5 ∷ 6 ∷ 7 ∷ 8 ∷ 9 ∷ 10 ∷ 11 ∷ 12 ∷ 13 ∷ 14 ∷ 15 ∷ 16 ∷ []) 1 tt k)
-pairless-said NodeNumber k = refl
-pairless-said AlreadyUp k = refl
-pairless-said AlreadyDown k = refl
-pairless-said NoMessage k = refl
-pairless-said ClockEnd k = refl
-pairless-said DeltaEnd k = refl
-pairless-said ChannelFull k = refl
-pairless-said TooShort k = refl
-pairless-said BadHeader k = refl
-pairless-said BadEnd k = refl
-pairless-said NotPlace k = refl
-pairless-said NoRoom k = refl
-pairless-said Malformed k = refl
-pairless-said NotSketch k = refl
-pairless-said BadLink k = refl
-pairless-said (Untimely u v) k = absurd (miss (0 ∷ 2 ∷ 3 ∷ 4 ∷ 5 ∷ 6 ∷ 7 ∷ 8 ∷ 9 ∷ 10 ∷ 11 ∷ 12 ∷ 13 ∷ 14 ∷ 15 ∷ 16 ∷ []) 17 tt k)
+abbrev butUntimely : List ℕ
+butUntimely = 0 ∷ 1 ∷ 2 ∷ 3 ∷ 4 ∷ 5 ∷ 6 ∷ 7 ∷ 8 ∷ 9 ∷ 10 ∷ 11 ∷ 12 ∷ 13 ∷ 14 ∷ 15 ∷ 16 ∷ 18 ∷ []
+
+abbrev pub NotFault : Refusal → Type 0
+NotFault r = OneOf butFault (tagOf reasons.the-type r)
+
+abbrev pub NotUntimely : Refusal → Type 0
+NotUntimely r = OneOf butUntimely (tagOf reasons.the-type r)
+
+pairless-said : (r : Refusal) → NotFault r → NotUntimely r → why (whyOf r .number) 0 0 ≡ whyOf r
+pairless-said Sizes k l = refl
+pairless-said (Fault u v) k l = absurd (miss butFault 1 tt k)
+pairless-said NodeNumber k l = refl
+pairless-said AlreadyUp k l = refl
+pairless-said AlreadyDown k l = refl
+pairless-said NoMessage k l = refl
+pairless-said ClockEnd k l = refl
+pairless-said DeltaEnd k l = refl
+pairless-said ChannelFull k l = refl
+pairless-said TooShort k l = refl
+pairless-said BadHeader k l = refl
+pairless-said BadEnd k l = refl
+pairless-said NotPlace k l = refl
+pairless-said NoRoom k l = refl
+pairless-said Malformed k l = refl
+pairless-said NotSketch k l = refl
+pairless-said BadLink k l = refl
+pairless-said (Untimely u v) k l = absurd (miss butUntimely 17 tt l)
+pairless-said TooLarge k l = refl
 
 module _ (r : Refusal) (number : ℕ) (e : number ≡ whyOf r .number) where
   pub with-pair : (s : Refusal) → r ≡ s → why number (whyOf s .u) (whyOf s .v) ≡ whyOf r
   with-pair s q = rw (e, q)
 
-  pub pairless : Pairless r → why number 0 0 ≡ whyOf r
-  pairless k = rw e (pairless-said r k)
+  pub pairless : NotFault r → NotUntimely r → why number 0 0 ≡ whyOf r
+  pairless k l = rw e (pairless-said r k l)

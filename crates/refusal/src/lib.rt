@@ -22,6 +22,7 @@ pub enum Refusal {
     NotSketch, // 16
     BadLink, // 17
     Untimely(u32, u32), // 18, with the first pair whose times make no sense
+    TooLarge, // 19
 }
 
 // The returned number; for 2 and 18 the pair at fault, else 0 and 0.
@@ -54,6 +55,7 @@ pub fn number(reason: Refusal) -> u32
         Refusal::NotSketch => 16,
         Refusal::BadLink => 17,
         Refusal::Untimely(_, _) => 18,
+        Refusal::TooLarge => 19,
     }
 }
 
@@ -62,9 +64,11 @@ pub fn said(reason: Refusal) -> Why
     ensures { λ r. ⌜ r ≡ whyOf reason ⌝ }
 {
     let number = number(reason);
-    match reason {
-        Refusal::Fault(u, v) => Why { number, u, v },
-        Refusal::Untimely(u, v) => Why { number, u, v },
-        _ => Why { number, u: 0, v: 0 },
+    if let Refusal::Fault(u, v) = reason {
+        return Why { number, u, v };
     }
+    if let Refusal::Untimely(u, v) = reason {
+        return Why { number, u, v };
+    }
+    Why { number, u: 0, v: 0 }
 }

@@ -13,3 +13,4 @@ pub mod ReadOff
 pub mod Desk
 pub mod OlderSave
 pub mod Sketched
+pub mod ShortHistories

@@ -108,6 +108,10 @@ length-digits-le (suc k) x =
 pub length-decimal-le : (x : ℕ) → length (decimal x) ≤ 10
 length-decimal-le x = length-digits-le 10 x
 
+-- a number and the byte behind it are at most eleven bytes
+pub number-le : (x e : ℕ) → length (decimal x ++ (e ∷ [])) ≤ 11
+number-le x e = omega (arith, length-append (decimal x) (e ∷ []), length-decimal-le x)
+
 pub length-front-le : (x : ℕ) → length (front x) ≤ 10
 length-front-le x =
     oneOrMore (length (front x) ≤ 10) x

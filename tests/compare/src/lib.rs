@@ -23,6 +23,7 @@ pub mod planted_times;
 pub mod questions;
 pub mod random;
 pub mod rounds;
+pub mod short;
 pub mod sizes;
 pub mod tally;
 pub mod times;

@@ -18,6 +18,7 @@
 //! | [`drawing`] | none: request [2] of document 02 |
 //! | [`times`] | none: request [3] of document 02 |
 //! | [`causal`] | none: request [5] of document 02, with section 2.3 of source 001 |
+//! | [`short`] | none: request [6] of document 02, over the events and the bench's lines |
 //!
 //! [`sketches`] has texts for the reader of [`drawing`], good and bad, for tests here and elsewhere.
 #![forbid(unsafe_code)]
@@ -35,6 +36,7 @@ pub mod parting;
 pub mod plot;
 pub mod quiet;
 pub mod refusal;
+pub mod short;
 mod sketch;
 mod sketch_corners;
 pub mod sketches;
@@ -73,6 +75,10 @@ mod worked_plots;
 mod worked_rooms;
 #[cfg(test)]
 mod worked_runs;
+#[cfg(test)]
+mod worked_short;
+#[cfg(test)]
+mod worked_short_rooms;
 #[cfg(test)]
 mod worked_sketches;
 #[cfg(test)]

@@ -1,8 +1,8 @@
-//! Document 01, "Returned numbers": the fifteen refusals; and those of requests [2] and [3] of document
-//! 02.
+//! Document 01, "Returned numbers": the fifteen refusals; and those of requests [2], [3] and [6] of
+//! document 02.
 
-/// The rows of the table, in its order (01, 5.3 to 5.17), then 16 and 17 (02, [2]) and 18 (02, [3]).
-/// After each of them nothing lent has changed (5.2).
+/// The rows of the table, in its order (01, 5.3 to 5.17), then 16 and 17 (02, [2]), 18 (02, [3]) and 19
+/// (02, [6]). After each of them nothing lent has changed (5.2).
 #[derive(Clone, Copy, Debug, PartialEq, Eq)]
 pub enum Refusal {
     /// 1: n, or the length of a lent table (01, 5.3)
@@ -41,6 +41,8 @@ pub enum Refusal {
     SketchLink,
     /// 18, with the pair: a time beyond its clock or its stamp (02, [3])
     Untimely { u: i64, v: i64 },
+    /// 19: too many stations or events for a list of short histories (02, [6])
+    NotShort,
 }
 
 impl Refusal {
@@ -65,6 +67,7 @@ impl Refusal {
             Refusal::SketchForm => 16,
             Refusal::SketchLink => 17,
             Refusal::Untimely { .. } => 18,
+            Refusal::NotShort => 19,
         }
     }
 

@@ -62,7 +62,7 @@ fn places(u: usize, v: usize) -> (usize, usize, usize) {
 }
 
 #[test]
-fn numbers_1_to_18_are_in_order() {
+fn numbers_1_to_19_are_in_order() {
     let all = [
         Refusal::Sizes,
         Refusal::Fault { u: 4, v: 5 },
@@ -82,9 +82,10 @@ fn numbers_1_to_18_are_in_order() {
         Refusal::SketchForm,
         Refusal::SketchLink,
         Refusal::Untimely { u: 6, v: 7 },
+        Refusal::NotShort,
     ];
     let numbers: Vec<i64> = all.into_iter().map(Refusal::number).collect();
-    assert_eq!(numbers, (1..=18).collect::<Vec<i64>>());
+    assert_eq!(numbers, (1..=19).collect::<Vec<i64>>());
     assert_eq!(all[1].pair(), Some((4, 5)));
     assert_eq!(all[17].pair(), Some((6, 7)));
     let pairs = all.into_iter().filter(|refusal| refusal.pair().is_some());

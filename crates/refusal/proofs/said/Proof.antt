@@ -1,12 +1,9 @@
 -- `refusal::said` meets its contract: 2 and 18 with their pair, and every other.
-use borrow.Author.Needs.{needs}
 use Rattle.refusal.specs.declared.Refusal.the-variants.{Fault, Untimely}
 use Rattle.refusal.proofs.RefusalLaws.{with-pair, pairless}
+use borrow.Author.Needs.{needs}
 use Rattle.refusal.proofs.said.Statement.{statement}
 use Rattle.refusal.proofs.said.Tie as tie
-use Rattle.refusal.proofs.said.Reads as reads
-use Rattle.refusal.proofs.said.Lts as lts
-use Rattle.refusal.proofs.number.Reads as number-reads
 
 number-requires : tie.Need-number-requires
 number-requires c κs = search needs
@@ -21,10 +18,13 @@ enum-known-reason-2 : tie.Need-enum-known-reason-2
 enum-known-reason-2 c = search needs
 
 returns-2 : tie.Need-returns-2
-returns-2 c = with-pair _ _ (c .before .before .before .number .ensures) (Untimely _ _) (c .before .reason2 .given .1)
+returns-2 c = with-pair _ _ (c .before .before .before .before .number .ensures) (Untimely _ _) (c .before .reason2 .given .1)
 
 returns-3 : tie.Need-returns-3
-returns-3 c = pairless (c .before .before .args .reason) _ (c .before .number .ensures) (c .match .keys3)
+returns-3 c =
+    pairless (c .before .before .before .args .reason) _ (c .before .before .number .ensures) (c .before .match .keys2) (c .match2 .keys2)
 
 pub said-spec : {M : Type 1} → statement M
-said-spec = tie.close (tie.spec number-requires enum-known-reason enum-known-reason-2 returns returns-2 returns-3)
+said-spec =
+    tie.close
+    (tie.spec number-requires enum-known-reason returns enum-known-reason-2 returns-2 returns-3)

@@ -1,12 +1,11 @@
--- `bench_run::lines::put_number` meets its contract: its pieces are poured one behind the other.
+-- `text::put_number` meets its contract: its pieces are poured one behind the other.
 use native.Mathlib.Omega.{arith}
 use mathlib.Core.Path.{refl}
-use Rattle.text.proofs.TextLaws.{length-decimal-le}
 use Rattle.text.proofs.PourLaws.{both, then, finish}
-use Rattle.bench_run.proofs.PieceLaws.{number-le}
+use Rattle.text.proofs.TextLaws.{length-decimal-le, number-le}
 use borrow.Author.Needs.{needs}
-use Rattle.bench_run.proofs.lines.put_number.Statement.{statement}
-use Rattle.bench_run.proofs.lines.put_number.Tie as tie
+use Rattle.text.proofs.put_number.Statement.{statement}
+use Rattle.text.proofs.put_number.Tie as tie
 
 put-decimal-requires : tie.Need-put-decimal-requires
 put-decimal-requires c κs = search needs

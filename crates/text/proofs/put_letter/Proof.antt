@@ -1,8 +1,8 @@
--- `bench_run::lines::put_letter` meets its contract: its pieces are poured one behind the other.
+-- `text::put_letter` meets its contract: its pieces are poured one behind the other.
 use Rattle.text.proofs.PourLaws.{both, then}
 use borrow.Author.Needs.{needs}
-use Rattle.bench_run.proofs.lines.put_letter.Statement.{statement}
-use Rattle.bench_run.proofs.lines.put_letter.Tie as tie
+use Rattle.text.proofs.put_letter.Statement.{statement}
+use Rattle.text.proofs.put_letter.Tie as tie
 
 put-byte-requires : tie.Need-put-byte-requires
 put-byte-requires c κs = search needs

@@ -1,0 +1,2 @@
+-- Definitions for leaf functions and proofs: no public promise cites them. The list as the code makes it.
+pub mod Walk

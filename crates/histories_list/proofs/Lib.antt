@@ -1,0 +1,2 @@
+-- The room of the program.
+pub mod Room
