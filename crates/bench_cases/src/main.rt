@@ -1,43 +1,43 @@
 // Runs the bench on each file of data/: every rule; every refusal that a bench line can meet; malformed lines of each kind; nodes that
 // block each other, and the way out; a network that refuses every event; inputs without a last newline, alone, empty, with a bad first
 // line, of 65,536 and 65,537 bytes.
+#![tactic(auto)]
 
-fn case(path: &[u8]) {
-    let file = os::open_read(path);
-    if file < 0 {
-        os::fail(path);
-        return;
-    }
+use std::fs::File;
+use std::io;
+use std::rt::Files;
+
+fn case(rt: &(impl Files + Print), path: &str) -> io::Result<()> {
+    let mut file = File::open(rt, path)?;
     let mut input = bench_space::input();
-    let got = io::read_full(file, &mut input);
-    libc::close(file);
+    let got = reading::front(&mut file, &mut input)?;
     let mut out = bench_space::output();
-    bench_space::list(&input, got, &mut out);
+    bench_space::list(rt, &input, got, &mut out)
 }
 
-fn heads() {
-    case(b"head_0");
-    case(b"head_1");
-    case(b"head_2");
-    case(b"head_3");
-    case(b"head_4");
-    case(b"head_5");
-    case(b"head_6");
-    case(b"head_7");
-    case(b"head_8");
-    case(b"head_9");
+fn heads(rt: &(impl Files + Print)) -> io::Result<()> {
+    case(rt, "head_0")?;
+    case(rt, "head_1")?;
+    case(rt, "head_2")?;
+    case(rt, "head_3")?;
+    case(rt, "head_4")?;
+    case(rt, "head_5")?;
+    case(rt, "head_6")?;
+    case(rt, "head_7")?;
+    case(rt, "head_8")?;
+    case(rt, "head_9")
 }
 
-fn main() {
-    case(b"rules");
-    case(b"refusals");
-    case(b"malformed");
-    case(b"blocked");
-    case(b"dead");
-    case(b"no_newline");
-    case(b"head_alone");
-    case(b"empty");
-    heads();
-    case(b"longest");
-    case(b"too_long");
+fn main(rt: HostRuntime) -> io::Result<()> {
+    case(&rt, "rules")?;
+    case(&rt, "refusals")?;
+    case(&rt, "malformed")?;
+    case(&rt, "blocked")?;
+    case(&rt, "dead")?;
+    case(&rt, "no_newline")?;
+    case(&rt, "head_alone")?;
+    case(&rt, "empty")?;
+    heads(&rt)?;
+    case(&rt, "longest")?;
+    case(&rt, "too_long")
 }

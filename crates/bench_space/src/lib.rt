@@ -1,8 +1,11 @@
 // Room for an input, one byte more than the longest, to tell a longer one; for every listing; and for every list of short histories (`histories_list`, proofs/Room.antt).
-// Assumes what the programs assume: the contracts of the C functions (docs/TRUST.md, 5).
+// Assumes what the programs assume: the contracts of the C functions that std calls (docs/TRUST.md, 5).
+#![tactic(auto)]
+
 ghost use Rattle.std.specs.Prelude.{◌≡◌, length};
 
 use bench_run::Ran;
+use std::io;
 
 pub fn input() -> [u8; 65537]
     ensures { 65537 ≡ length result }
@@ -23,22 +26,24 @@ pub fn histories() -> [u8; 654636]
 }
 
 // The first `size` bytes, to standard output.
-pub fn write(out: &[u8], size: usize) {
+pub fn write(rt: &impl Print, out: &[u8], size: usize) -> io::Result<()> {
     if size <= out.len() {
-        io::write_all(1, &out[..size]);
+        return rt.write_all(&out[..size]);
     }
+    Ok(())
 }
 
-fn run(input: &[u8], out: &mut [u8]) {
+fn run(rt: &impl Print, input: &[u8], out: &mut [u8]) -> io::Result<()> {
     match bench_run::run(input, out) {
-        Ran::Listed(size) => write(out, size),
-        Ran::Refused(_) => (),
+        Ran::Listed(size) => write(rt, out, size),
+        Ran::Refused(_) => Ok(()),
     }
 }
 
 // The first `got` bytes of the input.
-pub fn list(input: &[u8], got: usize, out: &mut [u8]) {
+pub fn list(rt: &impl Print, input: &[u8], got: usize, out: &mut [u8]) -> io::Result<()> {
     if got <= input.len() {
-        run(&input[..got], out);
+        run(rt, &input[..got], out)?;
     }
+    Ok(())
 }

@@ -1,116 +1,120 @@
 // The files of data/ through what bin/draw and bin/sketch share.
 use super::room;
+use std::io;
+use std::rt::Files;
 
-fn drawn_of(input: &[u8], size: usize) {
+fn drawn_of(rt: &impl Print, input: &[u8], size: usize) -> io::Result<()> {
     if size <= input.len() {
-        plot_files::draw_sketch(&input[..size]);
+        plot_files::draw_sketch(rt, &input[..size])?;
     }
+    Ok(())
 }
 
-fn sketch(name: &[u8]) {
+fn sketch(rt: &(impl Files + Print), name: &str) -> io::Result<()> {
     let mut input = plot_files::input();
-    let size = room::file(name, &mut input);
-    drawn_of(&input, size);
+    let size = room::file(rt, name, &mut input)?;
+    drawn_of(rt, &input, size)
 }
 
 // 16: the head, the stations, the end, the bytes between, the links.
-pub fn not_of_the_form() {
-    heads();
-    stations();
-    bytes();
-    links();
+pub fn not_of_the_form(rt: &(impl Files + Print)) -> io::Result<()> {
+    heads(rt)?;
+    stations(rt)?;
+    bytes(rt)?;
+    links(rt)
 }
 
-fn heads() {
-    sketch(b"empty");
-    sketch(b"digraph");
-    sketch(b"strict");
-    sketch(b"no_name");
+fn heads(rt: &(impl Files + Print)) -> io::Result<()> {
+    sketch(rt, "empty")?;
+    sketch(rt, "digraph")?;
+    sketch(rt, "strict")?;
+    sketch(rt, "no_name")
 }
 
-fn stations() {
-    sketch(b"no_station");
-    sketch(b"stations_17");
-    sketch(b"out_of_order");
-    sketch(b"from_2");
-    sketch(b"station_left_out");
-    sketch(b"station_twice");
-    sketch(b"station_behind_link");
+fn stations(rt: &(impl Files + Print)) -> io::Result<()> {
+    sketch(rt, "no_station")?;
+    sketch(rt, "stations_17")?;
+    sketch(rt, "out_of_order")?;
+    sketch(rt, "from_2")?;
+    sketch(rt, "station_left_out")?;
+    sketch(rt, "station_twice")?;
+    sketch(rt, "station_behind_link")
 }
 
-fn bytes() {
-    sketch(b"no_last_newline");
-    sketch(b"no_end");
-    sketch(b"bytes_behind");
-    sketch(b"carriage_returns");
-    sketch(b"tabs");
-    sketch(b"blank_line");
-    sketch(b"comment");
+fn bytes(rt: &(impl Files + Print)) -> io::Result<()> {
+    sketch(rt, "no_last_newline")?;
+    sketch(rt, "no_end")?;
+    sketch(rt, "bytes_behind")?;
+    sketch(rt, "carriage_returns")?;
+    sketch(rt, "tabs")?;
+    sketch(rt, "blank_line")?;
+    sketch(rt, "comment")
 }
 
 // The last is a link to 0 before a line that is none: 16 before 17.
-fn links() {
-    sketch(b"one_blank");
-    sketch(b"no_blanks");
-    sketch(b"no_semicolon");
-    sketch(b"arrow");
-    sketch(b"chain");
-    sketch(b"hundred");
-    sketch(b"hundred_second");
-    sketch(b"zero_in_front");
-    sketch(b"zero_in_front_second");
-    sketch(b"drawing");
-    sketch(b"bad_last_line");
+fn links(rt: &(impl Files + Print)) -> io::Result<()> {
+    sketch(rt, "one_blank")?;
+    sketch(rt, "no_blanks")?;
+    sketch(rt, "no_semicolon")?;
+    sketch(rt, "arrow")?;
+    sketch(rt, "chain")?;
+    sketch(rt, "hundred")?;
+    sketch(rt, "hundred_second")?;
+    sketch(rt, "zero_in_front")?;
+    sketch(rt, "zero_in_front_second")?;
+    sketch(rt, "drawing")?;
+    sketch(rt, "bad_last_line")
 }
 
 // 17; the longest text that is read, 65,536 bytes, names a link twice; one byte more is not looked at.
-pub fn bad_links() {
-    sketch(b"zero");
-    sketch(b"zero_first");
-    sketch(b"zero_second");
-    sketch(b"ninety_nine");
-    sketch(b"above_n");
-    sketch(b"itself");
-    sketch(b"twice");
-    sketch(b"twice_turned");
-    sketch(b"longest");
-    sketch(b"too_long");
+pub fn bad_links(rt: &(impl Files + Print)) -> io::Result<()> {
+    sketch(rt, "zero")?;
+    sketch(rt, "zero_first")?;
+    sketch(rt, "zero_second")?;
+    sketch(rt, "ninety_nine")?;
+    sketch(rt, "above_n")?;
+    sketch(rt, "itself")?;
+    sketch(rt, "twice")?;
+    sketch(rt, "twice_turned")?;
+    sketch(rt, "longest")?;
+    sketch(rt, "too_long")
 }
 
 // 0: the whole drawing of the plot read. Own heights are fresh, so every arrow leads to the lower number.
-pub fn accepted() {
-    sketch(b"one");
-    sketch(b"apart");
-    sketch(b"pair");
-    sketch(b"pair_turned");
-    sketch(b"ring");
-    sketch(b"ten");
-    sketch(b"all_of_16");
+pub fn accepted(rt: &(impl Files + Print)) -> io::Result<()> {
+    sketch(rt, "one")?;
+    sketch(rt, "apart")?;
+    sketch(rt, "pair")?;
+    sketch(rt, "pair_turned")?;
+    sketch(rt, "ring")?;
+    sketch(rt, "ten")?;
+    sketch(rt, "all_of_16")
 }
 
-fn plot_of(input: &[u8], size: usize) {
+fn plot_of(rt: &impl Print, input: &[u8], size: usize) -> io::Result<()> {
     if size <= input.len() {
-        plot_files::draw_bench(&input[..size]);
+        plot_files::draw_bench(rt, &input[..size])?;
     }
+    Ok(())
 }
 
-fn plot(name: &[u8]) {
+fn plot(rt: &(impl Files + Print), name: &str) -> io::Result<()> {
     let mut input = plot_files::input();
-    let size = room::file(name, &mut input);
-    plot_of(&input, size);
+    let size = room::file(rt, name, &mut input)?;
+    plot_of(rt, &input, size)
 }
 
 // A channel up one way is no arrow; arrows turn while a search goes on and after the elections.
-pub fn plots() {
-    plot(b"plot_fresh");
-    plot(b"plot_one_way");
-    plot(b"plot_formed");
-    plot(b"plot_elected");
-    plot(b"plot_turned");
-    plot(b"plot_elected_anew");
-    plot(b"plot_row");
-    plot(b"plot_searching");
-    plot(b"plot_row_anew");
-    plot(b"plot_malformed");
-    plot(b"plot_too_many");
+pub fn plots(rt: &(impl Files + Print)) -> io::Result<()> {
+    plot(rt, "plot_fresh")?;
+    plot(rt, "plot_one_way")?;
+    plot(rt, "plot_formed")?;
+    plot(rt, "plot_elected")?;
+    plot(rt, "plot_turned")?;
+    plot(rt, "plot_elected_anew")?;
+    plot(rt, "plot_row")?;
+    plot(rt, "plot_searching")?;
+    plot(rt, "plot_row_anew")?;
+    plot(rt, "plot_malformed")?;
+    plot(rt, "plot_too_many")
 }

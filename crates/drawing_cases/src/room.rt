@@ -1,6 +1,10 @@
 // Tables and bytes of fixed sizes, and a file of data/ in the room for an input.
 ghost use Rattle.std.specs.Prelude.{◌≡◌, length};
 
+use std::fs::File;
+use std::io;
+use std::rt::Files;
+
 pub fn nodes_of_2() -> [u32; 34]
     ensures { 34 ≡ length result }
 {
@@ -21,16 +25,8 @@ pub fn dots() -> [u8; 40]
 }
 
 // The name, and how many bytes the file put into the room.
-pub fn file(name: &[u8], input: &mut [u8]) -> usize {
-    plot_files::put(b"= ");
-    plot_files::put(name);
-    plot_files::put(b"\n");
-    let file = os::open_read(name);
-    if file < 0 {
-        os::fail(name);
-        return 0;
-    }
-    let size = io::read_full(file, input);
-    libc::close(file);
-    size
+pub fn file(rt: &(impl Files + Print), name: &str, input: &mut [u8]) -> io::Result<usize> {
+    println!(rt; "= {name}")?;
+    let mut file = File::open(rt, name)?;
+    reading::front(&mut file, input)
 }

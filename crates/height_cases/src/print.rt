@@ -1,49 +1,50 @@
 // Heights to standard output, as document 01 writes them: (τ,originator,bit,depth; negated time,leader; station).
 use super::Seven;
+use std::io;
 
-fn text(words: &[u8]) {
-    io::write_all(1, words);
+fn text(rt: &impl Print, words: &[u8]) -> io::Result<()> {
+    rt.write_all(words)
 }
 
-fn number(x: u32, behind: &[u8]) {
-    io::print_decimal(1, x as u64);
-    text(behind);
+fn number(rt: &impl Print, x: u32, behind: &[u8]) -> io::Result<()> {
+    rt.print(x)?;
+    text(rt, behind)
 }
 
 // Below 0 by the distance from -1, so that the smallest depth has its number too.
-fn depth(delta: i32) {
+fn depth(rt: &impl Print, delta: i32) -> io::Result<()> {
     let word = height::words::delta_word(delta);
     if delta < 0 {
-        text(b"-");
-        io::print_decimal(1, (4294967295 - word) as u64 + 1);
+        text(rt, b"-")?;
+        rt.print(u64::from(4294967295 - word) + 1)?;
     } else {
-        io::print_decimal(1, word as u64);
+        rt.print(word)?;
     }
-    text(b"; ");
+    text(rt, b"; ")
 }
 
-fn negated(elected: u32) {
+fn negated(rt: &impl Print, elected: u32) -> io::Result<()> {
     if elected > 0 {
-        text(b"-");
+        text(rt, b"-")?;
     }
-    number(elected, b",");
+    number(rt, elected, b",")
 }
 
-pub fn height(s: Seven) {
-    text(b"(");
-    number(s.tau, b",");
-    number(s.oid, b",");
-    number(s.r, b",");
-    depth(s.delta);
-    negated(s.elected);
-    number(s.lid, b"; ");
-    number(s.id, b")");
+pub fn height(rt: &impl Print, s: Seven) -> io::Result<()> {
+    text(rt, b"(")?;
+    number(rt, s.tau, b",")?;
+    number(rt, s.oid, b",")?;
+    number(rt, s.r, b",")?;
+    depth(rt, s.delta)?;
+    negated(rt, s.elected)?;
+    number(rt, s.lid, b"; ")?;
+    number(rt, s.id, b")")
 }
 
 // How the height before it compares with this one.
-pub fn parted(sign: &[u8], s: Seven, place: u32) {
-    text(sign);
-    height(s);
-    text(b" ");
-    number(place, b"\n");
+pub fn parted(rt: &impl Print, sign: &[u8], s: Seven, place: u32) -> io::Result<()> {
+    text(rt, sign)?;
+    height(rt, s)?;
+    text(rt, b" ")?;
+    number(rt, place, b"\n")
 }

@@ -67,7 +67,7 @@ pub fn zeros(text: &[u8], length: u32) -> u32 {
         if text.len() - at < width {
             return good;
         }
-        good = std::num::wrapping_add_u32(good, one(&text[at..at + width], length, &mut out));
+        good = good.wrapping_add(one(&text[at..at + width], length, &mut out));
         at += width;
     }
     good

@@ -1,6 +1,8 @@
 // Case m: sixteen nodes, each with all others in F and eight messages waiting on every channel, take 34,044 bytes.
 ghost use Rattle.std.specs.Prelude.{◌≡◌, ◌≤◌, length};
 
+use std::io;
+
 fn nodes_of_16() -> [u32; 1840]
     ensures { 1840 ≡ length result }
 {
@@ -72,26 +74,41 @@ fn fill_nodes(nodes: &mut [u32]) {
     }
 }
 
-fn room(nodes: &[u32], channels: &[u32], out: &mut [u8], len: usize) {
+fn room(
+    rt: &impl Print,
+    nodes: &[u32],
+    channels: &[u32],
+    out: &mut [u8],
+    len: usize,
+) -> io::Result<()> {
     if len <= out.len() {
-        super::lines::saved(image_snapshot::save(16, nodes, channels, &mut out[..len]));
+        super::lines::saved(
+            rt,
+            image_snapshot::save(16, nodes, channels, &mut out[..len]),
+        )?;
     }
+    Ok(())
 }
 
 // One byte too few gives 14. What is restored is saved as the same number of bytes.
-fn around(nodes: &mut [u32], channels: &mut [u32], out: &mut [u8]) {
-    room(nodes, channels, out, 34043);
-    room(nodes, channels, out, 34044);
-    super::lines::restored(image_snapshot::restore(out, nodes, channels));
-    room(nodes, channels, out, 34044);
+fn around(
+    rt: &impl Print,
+    nodes: &mut [u32],
+    channels: &mut [u32],
+    out: &mut [u8],
+) -> io::Result<()> {
+    room(rt, nodes, channels, out, 34043)?;
+    room(rt, nodes, channels, out, 34044)?;
+    super::lines::restored(rt, image_snapshot::restore(out, nodes, channels))?;
+    room(rt, nodes, channels, out, 34044)
 }
 
-pub fn sixteen() {
+pub fn sixteen(rt: &impl Print) -> io::Result<()> {
     let mut nodes = nodes_of_16();
     let mut channels = channels_of_16();
     let mut out = bytes();
     lent::fresh(16, &mut nodes, &mut channels);
     fill_nodes(&mut nodes);
     fill_channels(&mut channels);
-    around(&mut nodes, &mut channels, &mut out);
+    around(rt, &mut nodes, &mut channels, &mut out)
 }

@@ -1,15 +1,16 @@
 // One line for each answer.
-// Assumes what the programs assume: the contracts of the C functions (docs/TRUST.md, 5).
+// Assumes what the programs assume: the contracts of the C functions that std calls (docs/TRUST.md, 5).
 use image_snapshot::{NodeRead, Saved};
 use lent::Checked;
 use refusal::Refusal;
+use std::io;
 
 fn digit(k: u32) -> u8 {
     b'0' + ((k % 10) as u8)
 }
 
 // The call, two digits, and two numbers of five digits.
-fn line(call: u8, number: u32, a: u32, b: u32) {
+fn line(rt: &impl Print, call: u8, number: u32, a: u32, b: u32) -> io::Result<()> {
     let text = [
         call,
         b' ',
@@ -29,31 +30,31 @@ fn line(call: u8, number: u32, a: u32, b: u32) {
         digit(b),
         b'\n',
     ];
-    io::write_all(1, &text);
+    rt.write_all(&text)
 }
 
-fn refused(call: u8, why: Refusal) {
+fn refused(rt: &impl Print, call: u8, why: Refusal) -> io::Result<()> {
     let w = refusal::said(why);
-    line(call, w.number, w.u, w.v);
+    line(rt, call, w.number, w.u, w.v)
 }
 
-pub fn saved(s: Saved) {
+pub fn saved(rt: &impl Print, s: Saved) -> io::Result<()> {
     match s {
-        Saved::Written(size) => line(b'S', 0, (size % 100000) as u32, 0),
-        Saved::Refused(why) => refused(b'S', why),
+        Saved::Written(size) => line(rt, b'S', 0, (size % 100000) as u32, 0),
+        Saved::Refused(why) => refused(rt, b'S', why),
     }
 }
 
-pub fn restored(r: Checked) {
+pub fn restored(rt: &impl Print, r: Checked) -> io::Result<()> {
     match r {
-        Checked::Sound => line(b'R', 0, 0, 0),
-        Checked::Refused(why) => refused(b'R', why),
+        Checked::Sound => line(rt, b'R', 0, 0, 0),
+        Checked::Refused(why) => refused(rt, b'R', why),
     }
 }
 
-pub fn looked(r: NodeRead) {
+pub fn looked(rt: &impl Print, r: NodeRead) -> io::Result<()> {
     match r {
-        NodeRead::Found(node) => line(b'L', 0, node.clock.0, node.neighbors as u32),
-        NodeRead::Refused(why) => refused(b'L', why),
+        NodeRead::Found(node) => line(rt, b'L', 0, node.clock.0, node.neighbors as u32),
+        NodeRead::Refused(why) => refused(rt, b'L', why),
     }
 }

@@ -1,6 +1,8 @@
 // Case m: the lengths of fresh images of 1 and 2 nodes, and node 3 of 4 at bit 928.
 ghost use Rattle.std.specs.Prelude.{◌≡◌, length};
 
+use std::io;
+
 pub fn nodes_of_1() -> [u32; 10]
     ensures { 10 ≡ length result }
 {
@@ -50,50 +52,56 @@ fn bytes() -> [u8; 234]
 }
 
 // A fresh network of n nodes is saved.
-fn fresh(n: u32, nodes: &mut [u32], channels: &mut [u32], out: &mut [u8]) {
+fn fresh(
+    rt: &impl Print,
+    n: u32,
+    nodes: &mut [u32],
+    channels: &mut [u32],
+    out: &mut [u8],
+) -> io::Result<()> {
     lent::fresh(n, nodes, channels);
-    super::lines::saved(image_snapshot::save(n, nodes, channels, out));
+    super::lines::saved(rt, image_snapshot::save(n, nodes, channels, out))
 }
 
 // 24 bytes.
-pub fn one() {
+pub fn one(rt: &impl Print) -> io::Result<()> {
     let mut nodes = nodes_of_1();
     let mut channels = channels_of_1();
     let mut out = bytes();
-    fresh(1, &mut nodes, &mut channels, &mut out);
+    fresh(rt, 1, &mut nodes, &mut channels, &mut out)
 }
 
 // 69 bytes.
-pub fn two() {
+pub fn two(rt: &impl Print) -> io::Result<()> {
     let mut nodes = nodes_of_2();
     let mut channels = channels_of_2();
     let mut out = bytes();
-    fresh(2, &mut nodes, &mut channels, &mut out);
+    fresh(rt, 2, &mut nodes, &mut channels, &mut out)
 }
 
-fn look(image: &[u8], k: u32, place: u64) {
+fn look(rt: &impl Print, image: &[u8], k: u32, place: u64) -> io::Result<()> {
     let mut row = row_of_4();
-    super::lines::looked(image_snapshot::read_node(image, k, place, &mut row));
+    super::lines::looked(rt, image_snapshot::read_node(image, k, place, &mut row))
 }
 
 // Node 3 starts at bit 928: 927, 929, the starts of nodes 2 and 4, and 928 + 2^32 give 13. Nodes 0 and 5 give 3.
-fn places(image: &[u8]) {
-    look(image, 3, 928);
-    look(image, 3, 927);
-    look(image, 3, 929);
-    look(image, 3, 480);
-    look(image, 3, 1376);
-    look(image, 3, 4294968224);
-    look(image, 4, 1376);
-    look(image, 0, 928);
-    look(image, 5, 1824);
+fn places(rt: &impl Print, image: &[u8]) -> io::Result<()> {
+    look(rt, image, 3, 928)?;
+    look(rt, image, 3, 927)?;
+    look(rt, image, 3, 929)?;
+    look(rt, image, 3, 480)?;
+    look(rt, image, 3, 1376)?;
+    look(rt, image, 3, 4294968224)?;
+    look(rt, image, 4, 1376)?;
+    look(rt, image, 0, 928)?;
+    look(rt, image, 5, 1824)
 }
 
 // 234 bytes.
-pub fn four() {
+pub fn four(rt: &impl Print) -> io::Result<()> {
     let mut nodes = nodes_of_4();
     let mut channels = channels_of_4();
     let mut out = bytes();
-    fresh(4, &mut nodes, &mut channels, &mut out);
-    places(&out);
+    fresh(rt, 4, &mut nodes, &mut channels, &mut out)?;
+    places(rt, &out)
 }

@@ -6,6 +6,7 @@ ghost use Rattle.tables.specs.Tables.{width};
 use super::print;
 use height::Height;
 use height::order::Order;
+use std::io;
 
 // The stations to which u is up; of both words the sixteen bits of a set.
 fn up_to(n: u32, u: u32, nodes: &[u32]) -> u16
@@ -21,62 +22,66 @@ fn own(n: u32, u: u32, nodes: &[u32]) -> Height
     tables::rows::height_in(n, tables::rows::node(n, u, nodes), u)
 }
 
-fn link(from: u32, to: u32, place: u32) {
-    print::text(b"link ");
-    print::number(from);
-    print::text(b" to ");
-    print::number(to);
-    print::text(b" by ");
-    print::place(place);
-    print::end();
+fn link(rt: &impl Print, from: u32, to: u32, place: u32) -> io::Result<()> {
+    print::text(rt, b"link ")?;
+    print::number(rt, from)?;
+    print::text(rt, b" to ")?;
+    print::number(rt, to)?;
+    print::text(rt, b" by ")?;
+    print::place(rt, place)?;
+    print::end(rt)
 }
 
 // From the larger height to the smaller; a is u's, b is v's.
-fn between(u: u32, v: u32, a: Height, b: Height) {
+fn between(rt: &impl Print, u: u32, v: u32, a: Height, b: Height) -> io::Result<()> {
     match height::order::of_heights(a, b) {
-        Order::Less(place) => link(v, u, place),
-        Order::Greater(place) => link(u, v, place),
-        Order::Equal => (),
+        Order::Less(place) => link(rt, v, u, place),
+        Order::Greater(place) => link(rt, u, v, place),
+        Order::Equal => Ok(()),
     }
 }
 
 // The link of u and v, if they are up both ways.
-fn pair(n: u32, u: u32, v: u32, nodes: &[u32])
+fn pair(rt: &impl Print, n: u32, u: u32, v: u32, nodes: &[u32]) -> io::Result<()>
     requires { (n ≤ 16) × Node n u × Node n v × (length nodes.now ≡ n * width n) }
 {
     let there = nodeset::contains(up_to(n, u, nodes), v);
     let back = nodeset::contains(up_to(n, v, nodes), u);
     if there & back {
-        between(u, v, own(n, u, nodes), own(n, v, nodes));
+        between(rt, u, v, own(n, u, nodes), own(n, v, nodes))?;
     }
+    Ok(())
 }
 
 // The links of u to higher stations.
-fn of_station(n: u32, u: u32, nodes: &[u32])
+fn of_station(rt: &impl Print, n: u32, u: u32, nodes: &[u32]) -> io::Result<()>
     requires { (n ≤ 16) × Node n u × (length nodes.now ≡ n * width n) }
 {
     let mut v: u32 = u + 1;
     while v <= n {
-        pair(n, u, v, nodes);
+        pair(rt, n, u, v, nodes)?;
         v += 1;
     }
+    Ok(())
 }
 
-fn of_stations(n: u32, nodes: &[u32])
+fn of_stations(rt: &impl Print, n: u32, nodes: &[u32]) -> io::Result<()>
     requires { (n ≤ 16) × (length nodes.now ≡ n * width n) }
 {
     let mut u: u32 = 1;
     while u <= n {
-        of_station(n, u, nodes);
+        of_station(rt, n, u, nodes)?;
         u += 1;
     }
+    Ok(())
 }
 
 // Tables of another length, which nobody hands over, show none.
-pub fn all(n: u32, nodes: &[u32])
+pub fn all(rt: &impl Print, n: u32, nodes: &[u32]) -> io::Result<()>
     requires { n ≤ 16 }
 {
     if nodes.len() == n as usize * tables::rows::row_width(n) {
-        of_stations(n, nodes);
+        of_stations(rt, n, nodes)?;
     }
+    Ok(())
 }

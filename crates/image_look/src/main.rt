@@ -1,29 +1,33 @@
 // What a saved image holds (`show`), or whether it is one (`check`): bin/image, docs/RESUME.md.
 // The word is the first argument, the image comes on standard input. No image is longer than 34,044 bytes, so that of a longer input the
 // front is refused as the whole.
-// Assumes what the programs assume: the contracts of the C functions (docs/TRUST.md, 5).
+// Assumes what the programs assume: the contracts of the C functions that std calls (docs/TRUST.md, 5).
+#![tactic(auto)]
+
 ghost use Rattle.std.specs.Prelude.{◌≤◌, ◌≡◌, length};
 
 use image_snapshot::CountRead;
 use lent::Checked;
 use refusal::Refusal;
+use std::env::Env;
+use std::io;
 
 mod links;
 mod print;
 mod show;
 
 // The refusal's number, and the pair of a fault.
-fn refused(showing: bool, why: Refusal) {
+fn refused(rt: &impl Print, showing: bool, why: Refusal) -> io::Result<()> {
     if showing {
-        print::text(b"refused ");
+        print::text(rt, b"refused ")?;
     }
     let w = refusal::said(why);
-    print::number(w.number);
+    print::number(rt, w.number)?;
     if w.u != 0 {
-        print::after_space(w.u);
-        print::after_space(w.v);
+        print::after_space(rt, w.u)?;
+        print::after_space(rt, w.v)?;
     }
-    print::end();
+    print::end(rt)
 }
 
 fn nodes_of_16() -> [u32; 1840]
@@ -39,23 +43,30 @@ fn channels_of_16() -> [u32; 16640]
 }
 
 // The image's network goes into the tables; then what they and the image show.
-fn restored(showing: bool, n: u32, image: &[u8], nodes: &mut [u32], channels: &mut [u32])
+fn restored(
+    rt: &impl Print,
+    showing: bool,
+    n: u32,
+    image: &[u8],
+    nodes: &mut [u32],
+    channels: &mut [u32],
+) -> io::Result<()>
     requires { n ≤ 16 }
 {
     match image_snapshot::restore(image, nodes, channels) {
-        Checked::Refused(why) => refused(showing, why),
+        Checked::Refused(why) => refused(rt, showing, why),
         Checked::Sound => {
             if showing {
-                show::all(n, image, nodes, channels);
+                show::all(rt, n, image, nodes, channels)
             } else {
-                print::text(b"0\n");
+                print::text(rt, b"0\n")
             }
         }
     }
 }
 
 // Tables of n nodes at the front of those of 16, where they always fit.
-fn sized(showing: bool, n: u32, image: &[u8])
+fn sized(rt: &impl Print, showing: bool, n: u32, image: &[u8]) -> io::Result<()>
     requires { n ≤ 16 }
 {
     let mut nodes = nodes_of_16();
@@ -65,26 +76,36 @@ fn sized(showing: bool, n: u32, image: &[u8])
     let b = k * k * tables::CELL_WIDTH;
     if a <= 1840 {
         if b <= 16640 {
-            restored(showing, n, image, &mut nodes[..a], &mut channels[..b]);
+            restored(rt, showing, n, image, &mut nodes[..a], &mut channels[..b])?;
         }
     }
+    Ok(())
 }
 
-fn look(showing: bool, image: &[u8]) {
+fn look(rt: &impl Print, showing: bool, image: &[u8]) -> io::Result<()> {
     match image_snapshot::count(image) {
-        CountRead::Refused(why) => refused(showing, why),
+        CountRead::Refused(why) => refused(rt, showing, why),
         CountRead::Found(n) => {
             if n <= 16 {
-                sized(showing, n, image);
+                sized(rt, showing, n, image)?;
             }
+            Ok(())
         }
     }
 }
 
-fn main() {
+// Room for every image, and for the front of a longer input.
+fn input() -> [u8; 65536]
+    ensures { 65536 ≡ length result }
+{
+    [0; 65536]
+}
+
+fn main(rt: HostRuntime) -> io::Result<()> {
     let mut word = [0u8; 8];
-    os::arg(1, &mut word);
-    let mut space = io::large_buffer();
-    let size = io::read_full(0, &mut space);
-    look(word[0] == b's', &space[..size]);
+    let _ = rt.arg(1, &mut word);
+    let mut space = input();
+    let mut reader = rt.reader();
+    let size = reading::front(&mut reader, &mut space)?;
+    look(&rt, word[0] == b's', &space[..size])
 }

@@ -2,12 +2,13 @@
 ghost use Rattle.std.specs.Prelude.{◌≡◌, drop};
 ghost use Rattle.bench_run.specs.inner.OnTables.{after_command_on, after_lines_on};
 ghost use Rattle.commands.specs.Commands.{lines_of, command_of};
-ghost use Rattle.tables.specs.Tables.{at_entry, at_exit};
+ghost use Rattle.tables.specs.Tables.{tables};
 
 use commands::Command;
+use std::io;
 
 fn line(text: &[u8], n: u32, nodes: &mut [u32], channels: &mut [u32])
-    ensures { at_exit nodes channels ≡ after_command_on n (at_entry nodes channels) (command_of text.now) }
+    ensures { tables nodes.new channels.new ≡ after_command_on n (tables nodes.old channels.old) (command_of text.now) }
 {
     match commands::parse(text) {
         Command::Up(u, v) => {
@@ -25,7 +26,7 @@ fn line(text: &[u8], n: u32, nodes: &mut [u32], channels: &mut [u32])
 
 // All lines from an offset on.
 fn lines(input: &[u8], from: usize, n: u32, nodes: &mut [u32], channels: &mut [u32])
-    ensures { at_exit nodes channels ≡ after_lines_on n (at_entry nodes channels) (lines_of (drop from input.now)) }
+    ensures { tables nodes.new channels.new ≡ after_lines_on n (tables nodes.old channels.old) (lines_of (drop from input.now)) }
 {
     let mut start = from;
     while start < input.len() {
@@ -35,8 +36,15 @@ fn lines(input: &[u8], from: usize, n: u32, nodes: &mut [u32], channels: &mut [u
     }
 }
 
-pub fn draw(input: &[u8], from: usize, n: u32, nodes: &mut [u32], channels: &mut [u32]) {
+pub fn draw(
+    rt: &impl Print,
+    input: &[u8],
+    from: usize,
+    n: u32,
+    nodes: &mut [u32],
+    channels: &mut [u32],
+) -> io::Result<()> {
     lent::fresh(n, nodes, channels);
     lines(input, from, n, nodes, channels);
-    super::drawn::all(n, nodes, channels);
+    super::drawn::all(rt, n, nodes, channels)
 }

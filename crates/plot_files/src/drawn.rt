@@ -2,6 +2,7 @@
 ghost use Rattle.std.specs.Prelude.{◌≡◌, length};
 
 use drawing::Drawn;
+use std::io;
 
 // Room for every drawing: the longest of 16 stations.
 fn room() -> [u8; 1409]
@@ -10,14 +11,20 @@ fn room() -> [u8; 1409]
     [0; 1409]
 }
 
-fn into(n: u32, nodes: &[u32], channels: &[u32], out: &mut [u8]) {
+fn into(
+    rt: &impl Print,
+    n: u32,
+    nodes: &[u32],
+    channels: &[u32],
+    out: &mut [u8],
+) -> io::Result<()> {
     match drawing::draw(n, nodes, channels, out) {
-        Drawn::Written(size) => super::print::front(out, size),
-        Drawn::Refused(why) => super::print::refused(why),
+        Drawn::Written(size) => super::print::front(rt, out, size),
+        Drawn::Refused(why) => super::print::refused(rt, why),
     }
 }
 
-pub fn all(n: u32, nodes: &[u32], channels: &[u32]) {
+pub fn all(rt: &impl Print, n: u32, nodes: &[u32], channels: &[u32]) -> io::Result<()> {
     let mut out = room();
-    into(n, nodes, channels, &mut out);
+    into(rt, n, nodes, channels, &mut out)
 }

@@ -1,9 +1,12 @@
 // A plot as a file, to standard output as another: an image or a bench input as its drawing, a sketch as its image or as its drawing.
 // What cannot be had is one line: `refused` with the number and the pair of a fault, `bad plot`, `too long`.
-// Assumes what the programs assume: the contracts of the C functions (docs/TRUST.md, 5).
+// Assumes what the programs assume: the contracts of the C functions that std calls (docs/TRUST.md, 5).
+#![tactic(auto)]
+
 ghost use Rattle.std.specs.Prelude.{◌≡◌, ◌≤◌, length};
 
 use image_snapshot::CountRead;
+use std::io;
 
 mod bench;
 mod drawn;
@@ -12,8 +15,8 @@ pub mod print;
 mod sketch;
 
 // To standard output.
-pub fn put(bytes: &[u8]) {
-    io::write_all(1, bytes);
+pub fn put(rt: &impl Print, bytes: &[u8]) -> io::Result<()> {
+    rt.write_all(bytes)
 }
 
 // Room for the longest input, and one byte more, to tell a longer one.
@@ -24,7 +27,7 @@ pub fn input() -> [u8; 65537]
 }
 
 // What is to be done with the input once there are tables for its stations; the events of a bench input start at an offset.
-#[derive(Drop)]
+#[derive(Clone, Copy)]
 enum Work {
     DrawImage,
     DrawBench(usize),
@@ -33,12 +36,19 @@ enum Work {
 }
 
 // In tables of n stations.
-fn in_tables(work: Work, n: u32, input: &[u8], nodes: &mut [u32], channels: &mut [u32]) {
+fn in_tables(
+    rt: &impl Print,
+    work: Work,
+    n: u32,
+    input: &[u8],
+    nodes: &mut [u32],
+    channels: &mut [u32],
+) -> io::Result<()> {
     match work {
-        Work::DrawImage => images::draw(n, input, nodes, channels),
-        Work::DrawBench(from) => bench::draw(input, from, n, nodes, channels),
-        Work::DrawSketch => sketch::draw(n, input, nodes, channels),
-        Work::SaveSketch => sketch::save(n, input, nodes, channels),
+        Work::DrawImage => images::draw(rt, n, input, nodes, channels),
+        Work::DrawBench(from) => bench::draw(rt, input, from, n, nodes, channels),
+        Work::DrawSketch => sketch::draw(rt, n, input, nodes, channels),
+        Work::SaveSketch => sketch::save(rt, n, input, nodes, channels),
     }
 }
 
@@ -55,7 +65,7 @@ fn channels_of_16() -> [u32; 16640]
 }
 
 // Tables of n nodes at the front of those of 16, where they always fit.
-fn with_tables(work: Work, n: u32, input: &[u8])
+fn with_tables(rt: &impl Print, work: Work, n: u32, input: &[u8]) -> io::Result<()>
     requires { n ≤ 16 }
 {
     let mut nodes = nodes_of_16();
@@ -65,58 +75,57 @@ fn with_tables(work: Work, n: u32, input: &[u8])
     let b = k * k * tables::CELL_WIDTH;
     if a <= 1840 {
         if b <= 16640 {
-            in_tables(work, n, input, &mut nodes[..a], &mut channels[..b]);
+            in_tables(rt, work, n, input, &mut nodes[..a], &mut channels[..b])?;
         }
     }
+    Ok(())
 }
 
 // No number of stations that is handed over here is above 16.
-fn on(work: Work, n: u32, input: &[u8]) {
+fn on(rt: &impl Print, work: Work, n: u32, input: &[u8]) -> io::Result<()> {
     if n <= 16 {
-        with_tables(work, n, input);
+        with_tables(rt, work, n, input)?;
     }
+    Ok(())
 }
 
 // ---- the four
 
 // The drawing of an image's plot. No image is longer than 34,044 bytes, so that of a longer input the front is refused as the whole.
-pub fn draw_image(input: &[u8]) {
+pub fn draw_image(rt: &impl Print, input: &[u8]) -> io::Result<()> {
     match image_snapshot::count(input) {
-        CountRead::Refused(why) => print::refused(why),
-        CountRead::Found(n) => on(Work::DrawImage, n, input),
+        CountRead::Refused(why) => print::refused(rt, why),
+        CountRead::Found(n) => on(rt, Work::DrawImage, n, input),
     }
 }
 
 // The drawing of a bench input's plot after all its events.
-pub fn draw_bench(input: &[u8]) {
+pub fn draw_bench(rt: &impl Print, input: &[u8]) -> io::Result<()> {
     if (input.len() < 1) | (65536 < input.len()) {
-        put(b"bad plot\n");
-        return;
+        return put(rt, b"bad plot\n");
     }
     let end = commands::line_end(input, 0);
     let n = commands::head(&input[..end]);
     if n == 0 {
-        put(b"bad plot\n");
-        return;
+        return put(rt, b"bad plot\n");
     }
-    on(Work::DrawBench(end + 1), n, input);
+    on(rt, Work::DrawBench(end + 1), n, input)
 }
 
 // A sketch longer than the room is not looked at. A text that is no sketch gets tables of no station: reading says 16.
-fn sketched(work: Work, input: &[u8]) {
+fn sketched(rt: &impl Print, work: Work, input: &[u8]) -> io::Result<()> {
     if 65536 < input.len() {
-        put(b"too long\n");
-        return;
+        return put(rt, b"too long\n");
     }
-    on(work, drawing::nodes_of(input), input);
+    on(rt, work, drawing::nodes_of(input), input)
 }
 
 // The drawing of a sketch's plot.
-pub fn draw_sketch(input: &[u8]) {
-    sketched(Work::DrawSketch, input);
+pub fn draw_sketch(rt: &impl Print, input: &[u8]) -> io::Result<()> {
+    sketched(rt, Work::DrawSketch, input)
 }
 
 // The image of a sketch's plot.
-pub fn save_sketch(input: &[u8]) {
-    sketched(Work::SaveSketch, input);
+pub fn save_sketch(rt: &impl Print, input: &[u8]) -> io::Result<()> {
+    sketched(rt, Work::SaveSketch, input)
 }

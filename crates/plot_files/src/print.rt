@@ -1,35 +1,37 @@
 // Numbers, parts and refusals to standard output.
 use super::put;
 use refusal::Refusal;
+use std::io;
 
-pub fn number(k: u32) {
-    io::print_decimal(1, k as u64);
+pub fn number(rt: &impl Print, k: u32) -> io::Result<()> {
+    rt.print(k)
 }
 
-fn after_space(k: u32) {
-    put(b" ");
-    number(k);
+fn after_space(rt: &impl Print, k: u32) -> io::Result<()> {
+    put(rt, b" ")?;
+    number(rt, k)
 }
 
 // The first bytes.
-pub fn front(bytes: &[u8], size: usize) {
+pub fn front(rt: &impl Print, bytes: &[u8], size: usize) -> io::Result<()> {
     if size <= bytes.len() {
-        put(&bytes[..size]);
+        put(rt, &bytes[..size])?;
     }
+    Ok(())
 }
 
 // The refusal's number, and the pair of a fault.
-pub fn why(why: Refusal) {
+pub fn why(rt: &impl Print, why: Refusal) -> io::Result<()> {
     let w = refusal::said(why);
-    number(w.number);
+    number(rt, w.number)?;
     if w.u != 0 {
-        after_space(w.u);
-        after_space(w.v);
+        after_space(rt, w.u)?;
+        after_space(rt, w.v)?;
     }
-    put(b"\n");
+    put(rt, b"\n")
 }
 
-pub fn refused(why: Refusal) {
-    put(b"refused ");
-    self::why(why);
+pub fn refused(rt: &impl Print, why: Refusal) -> io::Result<()> {
+    put(rt, b"refused ")?;
+    self::why(rt, why)
 }

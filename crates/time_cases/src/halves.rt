@@ -3,6 +3,7 @@
 ghost use Rattle.std.specs.Prelude.{◌≡◌, length};
 
 use image_snapshot::Saved;
+use std::io;
 
 fn nodes() -> [u32; 72]
     ensures { 72 ≡ length result }
@@ -73,16 +74,16 @@ fn saved(nodes: &[u32], channels: &[u32], out: &mut [u8]) -> usize {
     }
 }
 
-fn line(name: &[u8], image: &[u8], size: usize) {
+fn line(rt: &impl Print, name: &[u8], image: &[u8], size: usize) -> io::Result<()> {
     let mut nodes = nodes();
     let mut channels = channels();
     let w = super::routines::restore(image, size, &mut nodes, &mut channels);
-    super::lines::text(name);
-    super::lines::number(w.number);
+    super::lines::text(rt, name)?;
+    super::lines::number(rt, w.number)?;
     if w.number == 18 {
-        super::lines::pair(w);
+        super::lines::pair(rt, w)?;
     }
-    super::lines::text(b"\n");
+    super::lines::text(rt, b"\n")
 }
 
 fn copy(from: &[u8], to: &mut [u8], i: usize) {
@@ -120,14 +121,19 @@ fn save_late(out: &mut [u8]) -> usize {
     saved(&nodes, &channels, out)
 }
 
-pub fn joined() {
+pub fn joined(rt: &impl Print) -> io::Result<()> {
     let mut early = bytes();
     let mut late = bytes();
     let before = save_early(&mut early);
     let after = save_late(&mut late);
-    super::lines::text(b"halves of two images\n");
-    line(b"the early image                       ", &early, before);
-    line(b"the late image                        ", &late, after);
+    super::lines::text(rt, b"halves of two images\n")?;
+    line(
+        rt,
+        b"the early image                       ",
+        &early,
+        before,
+    )?;
+    line(rt, b"the late image                        ", &late, after)?;
     join(&early, &mut late);
-    line(b"12 bytes of the early, then the late  ", &late, after);
+    line(rt, b"12 bytes of the early, then the late  ", &late, after)
 }

@@ -1,9 +1,10 @@
 // The seven kinds of time at each of the two stations: a line at the limit, and a line one beyond it, with what each call returns.
 use refusal::Why;
+use std::io;
 
 // Where a time stands: a word of the rows or of the cells, and a bit place of the image; how large it may be; whether it is a search time, which has an
 // originator in the next word.
-#[derive(Drop)]
+#[derive(Clone, Copy)]
 struct Kind {
     in_rows: bool,
     word: usize,
@@ -74,90 +75,100 @@ fn image_with(k: Kind, time: u32, image: &mut [u8]) {
 
 // ---- the calls, each on tables of its own
 
-fn said(w: Why, first: Why) {
-    super::lines::number(w.number);
+fn said(rt: &impl Print, w: Why, first: Why) -> io::Result<()> {
+    super::lines::number(rt, w.number)?;
     if (w.number == 18) & ((w.u != first.u) | (w.v != first.v)) {
-        super::lines::text(b"!");
+        super::lines::text(rt, b"!")?;
     }
+    Ok(())
 }
 
 // C, then U, D and M.
-fn on_tables(k: Kind, time: u32) -> Why {
+fn on_tables(rt: &impl Print, k: Kind, time: u32) -> io::Result<Why> {
     let mut nodes = super::scene::nodes();
     let mut channels = super::scene::channels();
     set(k, time, &mut nodes, &mut channels);
     let first = super::routines::check(&nodes, &channels);
-    said(first, first);
-    said(super::routines::up(2, &mut nodes, &mut channels), first);
-    set(k, time, &mut nodes, &mut channels);
-    said(super::routines::down(2, &mut nodes, &mut channels), first);
+    said(rt, first, first)?;
+    said(rt, super::routines::up(2, &mut nodes, &mut channels), first)?;
     set(k, time, &mut nodes, &mut channels);
     said(
+        rt,
+        super::routines::down(2, &mut nodes, &mut channels),
+        first,
+    )?;
+    set(k, time, &mut nodes, &mut channels);
+    said(
+        rt,
         super::routines::receive(2, &mut nodes, &mut channels),
         first,
-    );
-    first
+    )?;
+    Ok(first)
 }
 
 // S and W.
-fn writings(k: Kind, time: u32, first: Why) {
+fn writings(rt: &impl Print, k: Kind, time: u32, first: Why) -> io::Result<()> {
     let mut nodes = super::scene::nodes();
     let mut channels = super::scene::channels();
     let mut image = super::scene::image();
     let mut page = super::scene::page();
     set(k, time, &mut nodes, &mut channels);
     said(
+        rt,
         super::routines::save(&nodes, &channels, &mut image, 101),
         first,
-    );
+    )?;
     said(
+        rt,
         super::routines::draw(&nodes, &channels, &mut page, 2000),
         first,
-    );
+    )
 }
 
 // Q, G and O.
-fn questions(k: Kind, time: u32, first: Why) {
+fn questions(rt: &impl Print, k: Kind, time: u32, first: Why) -> io::Result<()> {
     let mut nodes = super::scene::nodes();
     let mut channels = super::scene::channels();
     set(k, time, &mut nodes, &mut channels);
-    said(super::routines::quiet(&nodes, &channels), first);
-    said(super::routines::heads(&nodes, &channels), first);
-    said(super::routines::group(1, &nodes, &channels), first);
+    said(rt, super::routines::quiet(&nodes, &channels), first)?;
+    said(rt, super::routines::heads(&nodes, &channels), first)?;
+    said(rt, super::routines::group(1, &nodes, &channels), first)
 }
 
 // R and L.
-fn on_image(k: Kind, time: u32, first: Why) {
+fn on_image(rt: &impl Print, k: Kind, time: u32, first: Why) -> io::Result<()> {
     let mut nodes = super::scene::nodes();
     let mut channels = super::scene::channels();
     let mut image = super::scene::image();
     let mut row = super::scene::row();
     image_with(k, time, &mut image);
     said(
+        rt,
         super::routines::restore(&image, 101, &mut nodes, &mut channels),
         first,
-    );
-    said(super::routines::look(&image, 1, 32, &mut row), first);
+    )?;
+    said(rt, super::routines::look(&image, 1, 32, &mut row), first)
 }
 
-fn line(name: &[u8], end: &[u8], k: Kind, time: u32) {
-    super::lines::text(name);
-    super::lines::text(end);
-    let first = on_tables(k, time);
-    writings(k, time, first);
-    questions(k, time, first);
-    on_image(k, time, first);
+fn line(rt: &impl Print, name: &[u8], end: &[u8], k: Kind, time: u32) -> io::Result<()> {
+    super::lines::text(rt, name)?;
+    super::lines::text(rt, end)?;
+    let first = on_tables(rt, k, time)?;
+    writings(rt, k, time, first)?;
+    questions(rt, k, time, first)?;
+    on_image(rt, k, time, first)?;
     if first.number != 0 {
-        super::lines::pair(first);
+        super::lines::pair(rt, first)?;
     }
-    super::lines::text(b"\n");
+    super::lines::text(rt, b"\n")
 }
 
-fn both(name: &[u8], k: Kind) {
-    line(name, b" at the limit", k, k.limit);
+fn both(rt: &impl Print, name: &[u8], k: Kind) -> io::Result<()> {
+    line(rt, name, b" at the limit", k, k.limit)?;
     if k.limit < 100 {
-        line(name, b" one beyond  ", k, k.limit + 1);
+        line(rt, name, b" one beyond  ", k, k.limit + 1)?;
     }
+    Ok(())
 }
 
 fn in_row(word: usize, place: usize, limit: u32, search: bool) -> Kind {
@@ -181,34 +192,56 @@ fn in_cell(word: usize, place: usize, limit: u32, search: bool) -> Kind {
 }
 
 // Heights within station 1's clock, 5; its message's stamp too, and the message's times within the stamp, 5.
-fn of_1() {
-    both(b"1: own search time        ", in_row(3, 96, 5, true));
-    both(b"1: own election time      ", in_row(7, 150, 5, false));
-    both(b"1: search time of a view  ", in_row(10, 192, 5, true));
-    both(b"1: election time of a view", in_row(14, 246, 5, false));
-    both(b"1: stamp of a message     ", in_cell(73, 644, 5, false));
-    both(b"1: search time of one     ", in_cell(66, 548, 5, true));
-    both(b"1: election time of one   ", in_cell(70, 602, 5, false));
+fn of_1(rt: &impl Print) -> io::Result<()> {
+    both(rt, b"1: own search time        ", in_row(3, 96, 5, true))?;
+    both(rt, b"1: own election time      ", in_row(7, 150, 5, false))?;
+    both(rt, b"1: search time of a view  ", in_row(10, 192, 5, true))?;
+    both(rt, b"1: election time of a view", in_row(14, 246, 5, false))?;
+    both(
+        rt,
+        b"1: stamp of a message     ",
+        in_cell(73, 644, 5, false),
+    )?;
+    both(rt, b"1: search time of one     ", in_cell(66, 548, 5, true))?;
+    both(
+        rt,
+        b"1: election time of one   ",
+        in_cell(70, 602, 5, false),
+    )
 }
 
 // Station 2's clock is 9, its message's stamp 7: that the message's times are below the clock is not enough.
-fn of_2() {
-    both(b"2: own search time        ", in_row(27, 448, 9, true));
-    both(b"2: own election time      ", in_row(31, 502, 9, false));
-    both(b"2: search time of a view  ", in_row(20, 352, 9, true));
-    both(b"2: election time of a view", in_row(24, 406, 9, false));
-    both(b"2: stamp of a message     ", in_cell(138, 776, 9, false));
-    both(b"2: search time of one     ", in_cell(131, 680, 7, true));
-    both(b"2: election time of one   ", in_cell(135, 734, 7, false));
+fn of_2(rt: &impl Print) -> io::Result<()> {
+    both(rt, b"2: own search time        ", in_row(27, 448, 9, true))?;
+    both(rt, b"2: own election time      ", in_row(31, 502, 9, false))?;
+    both(rt, b"2: search time of a view  ", in_row(20, 352, 9, true))?;
+    both(rt, b"2: election time of a view", in_row(24, 406, 9, false))?;
+    both(
+        rt,
+        b"2: stamp of a message     ",
+        in_cell(138, 776, 9, false),
+    )?;
+    both(
+        rt,
+        b"2: search time of one     ",
+        in_cell(131, 680, 7, true),
+    )?;
+    both(
+        rt,
+        b"2: election time of one   ",
+        in_cell(135, 734, 7, false),
+    )
 }
 
-pub fn all() {
+pub fn all(rt: &impl Print) -> io::Result<()> {
     super::lines::text(
+        rt,
         b"C check, U up, D down, M receipt, S save, W drawing, Q quiet, G groups, O group of 1, R restore, L look at 1\n",
-    );
+    )?;
     super::lines::text(
+        rt,
         b"time                                     C  U  D  M  S  W  Q  G  O  R  L\n",
-    );
-    of_1();
-    of_2();
+    )?;
+    of_1(rt)?;
+    of_2(rt)
 }

@@ -1,8 +1,9 @@
-// What is printed. Assumes what the programs assume: the contracts of the C functions (docs/TRUST.md, 5).
+// What is printed. Assumes what the programs assume: the contracts of the C functions that std calls (docs/TRUST.md, 5).
 use refusal::{Refusal, Why};
+use std::io;
 
-pub fn text(words: &[u8]) {
-    io::write_all(1, words);
+pub fn text(rt: &impl Print, words: &[u8]) -> io::Result<()> {
+    rt.write_all(words)
 }
 
 fn digit(k: u32) -> u8 {
@@ -10,21 +11,20 @@ fn digit(k: u32) -> u8 {
 }
 
 // A number of at most two digits after a space, in three columns.
-pub fn number(k: u32) {
+pub fn number(rt: &impl Print, k: u32) -> io::Result<()> {
     if k < 10 {
         let one = [b' ', b' ', digit(k)];
-        io::write_all(1, &one);
-        return;
+        return rt.write_all(&one);
     }
     let two = [b' ', digit(k / 10), digit(k)];
-    io::write_all(1, &two);
+    rt.write_all(&two)
 }
 
 // The pair of a refusal.
-pub fn pair(w: Why) {
-    text(b" of");
-    number(w.u);
-    number(w.v);
+pub fn pair(rt: &impl Print, w: Why) -> io::Result<()> {
+    text(rt, b" of")?;
+    number(rt, w.u)?;
+    number(rt, w.v)
 }
 
 pub fn none() -> Why {
