@@ -22,12 +22,12 @@ APART = [
     ("protocol/proofs/Ranges.antt", "level_holds", "level_holds-fits"),
 ]
 NAME = re.compile(r"[A-Za-z_][A-Za-z0-9_'!?-]*")
-HUMP = re.compile(r"(?<=[a-z0-9])([A-Z])")
+HUMP = re.compile(r"(?<=[a-z0-9])[A-Z]|(?<=[a-z0-9][A-Z])[A-Z](?=[a-z])")
 STRING = re.compile(r'"[^"\n]*"')
 
 
 def part(p):
-    return HUMP.sub(lambda m: "_" + m.group(1).lower(), p) if re.match(r"[a-z]", p) else p
+    return HUMP.sub(lambda m: "_" + m.group().lower(), p) if re.match(r"[a-z]", p) else p
 
 
 def turned(name):

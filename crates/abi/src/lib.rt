@@ -1,6 +1,8 @@
 // The calls for C and Rust (include/election.h): those of `lent`, `election`, `groups`, `image_snapshot`, `drawing`, `histories` and the comparison of
 // `height`, with a plain struct as the answer.
 // Every call takes anything; its contract is the equation of the call that it makes.
+#![tactic(auto)]
+
 ghost use Rattle.std.specs.Prelude.{◌≡◌};
 ghost use Rattle.std.specs.Int.Count.{ones};
 ghost use Rattle.drawing.specs.Draw.{draw_on, drawing_length};
@@ -20,15 +22,15 @@ ghost use Rattle.lent.specs.Check.{check_on};
 ghost use Rattle.lent.specs.Fresh.{fresh_on};
 ghost use Rattle.protocol.specs.Step.{up, down, receive};
 ghost use Rattle.refusal.specs.Outcome.{outcome};
-ghost use Rattle.tables.specs.Tables.{at_entry, at_exit};
 ghost use Rattle.abi.specs.Report.{said_report, said_check_report, said_save_report, said_node_report, said_value_report, said_group_report, said_comparison_report, said_list_report, height_given};
 ghost use Rattle.abi.specs.Sizes.{is_size, nodes_length, channels_length, row_length, image_length};
+ghost use Rattle.tables.specs.Tables.{tables};
 
 mod reports;
 
 // What an event answers: election_answer.
 #[repr(C)]
-#[derive(Drop)]
+#[derive(Clone, Copy)]
 pub struct AnswerReport {
     pub number: u32,
     pub fault_at: u32,
@@ -44,7 +46,7 @@ pub struct AnswerReport {
 
 // What a check, a fresh network, a restore or a sketch read answers: election_checked.
 #[repr(C)]
-#[derive(Drop)]
+#[derive(Clone, Copy)]
 pub struct CheckReport {
     pub number: u32,
     pub fault_at: u32,
@@ -53,7 +55,7 @@ pub struct CheckReport {
 
 // What a save or a drawing answers: election_saved.
 #[repr(C)]
-#[derive(Drop)]
+#[derive(Clone, Copy)]
 pub struct SaveReport {
     pub number: u32,
     pub fault_at: u32,
@@ -63,7 +65,7 @@ pub struct SaveReport {
 
 // What a list of histories answers: election_listed.
 #[repr(C)]
-#[derive(Drop)]
+#[derive(Clone, Copy)]
 pub struct ListReport {
     pub number: u32,
     pub fault_at: u32,
@@ -74,7 +76,7 @@ pub struct ListReport {
 
 // What a look at one node answers: election_station.
 #[repr(C)]
-#[derive(Drop)]
+#[derive(Clone, Copy)]
 pub struct NodeReport {
     pub number: u32,
     pub fault_at: u32,
@@ -86,7 +88,7 @@ pub struct NodeReport {
 
 // What a call answers that looks for one number: election_value.
 #[repr(C)]
-#[derive(Drop)]
+#[derive(Clone, Copy)]
 pub struct ValueReport {
     pub number: u32,
     pub fault_at: u32,
@@ -96,7 +98,7 @@ pub struct ValueReport {
 
 // What a look at one node's group answers: election_group.
 #[repr(C)]
-#[derive(Drop)]
+#[derive(Clone, Copy)]
 pub struct GroupReport {
     pub number: u32,
     pub fault_at: u32,
@@ -108,7 +110,7 @@ pub struct GroupReport {
 
 // A height to be compared, its election time not negated: election_height.
 #[repr(C)]
-#[derive(Drop)]
+#[derive(Clone, Copy)]
 pub struct GivenHeight {
     pub search_time: u32,
     pub originator: u32,
@@ -121,7 +123,7 @@ pub struct GivenHeight {
 
 // What the comparison of two heights answers: election_comparison.
 #[repr(C)]
-#[derive(Drop)]
+#[derive(Clone, Copy)]
 pub struct ComparisonReport {
     pub order: i32,
     pub place: u32,
@@ -206,7 +208,7 @@ pub extern "C" fn election_histories_len(n: u32, length: u32) -> usize
 // The fresh network of n nodes.
 #[unsafe(no_mangle)]
 pub extern "C" fn election_fresh(n: u32, nodes: &mut [u32], channels: &mut [u32]) -> CheckReport
-    ensures { outcome (said_check_report result) (at_exit nodes channels) ≡ fresh_on n (at_entry nodes channels) }
+    ensures { outcome (said_check_report result) (tables nodes.new channels.new) ≡ fresh_on n (tables nodes.old channels.old) }
 {
     reports::of_check(lent::fresh(n, nodes, channels))
 }
@@ -214,7 +216,7 @@ pub extern "C" fn election_fresh(n: u32, nodes: &mut [u32], channels: &mut [u32]
 // Refusals 1, 2 and 18.
 #[unsafe(no_mangle)]
 pub extern "C" fn election_check(n: u32, nodes: &[u32], channels: &[u32]) -> CheckReport
-    ensures { said_check_report result ≡ check_on n (at_entry nodes channels) }
+    ensures { said_check_report result ≡ check_on n (tables nodes.now channels.now) }
 {
     reports::of_check(lent::check(n, nodes, channels))
 }
@@ -230,7 +232,7 @@ pub extern "C" fn election_up(
     nodes: &mut [u32],
     channels: &mut [u32],
 ) -> AnswerReport
-    ensures channels_value { outcome (said_report result) (at_exit nodes channels) ≡ step_on n (up u v) (at_entry nodes channels) }
+    ensures channels_value { outcome (said_report result) (tables nodes.new channels.new) ≡ step_on n (up u v) (tables nodes.old channels.old) }
     ensures sent_value { result.sent ≡ ones result.sent_to }
 {
     reports::of_answer(election::up(n, u, v, nodes, channels))
@@ -245,7 +247,7 @@ pub extern "C" fn election_down(
     nodes: &mut [u32],
     channels: &mut [u32],
 ) -> AnswerReport
-    ensures channels_value { outcome (said_report result) (at_exit nodes channels) ≡ step_on n (down u v) (at_entry nodes channels) }
+    ensures channels_value { outcome (said_report result) (tables nodes.new channels.new) ≡ step_on n (down u v) (tables nodes.old channels.old) }
     ensures sent_value { result.sent ≡ ones result.sent_to }
 {
     reports::of_answer(election::down(n, u, v, nodes, channels))
@@ -260,7 +262,7 @@ pub extern "C" fn election_receive(
     nodes: &mut [u32],
     channels: &mut [u32],
 ) -> AnswerReport
-    ensures channels_value { outcome (said_report result) (at_exit nodes channels) ≡ step_on n (receive from to) (at_entry nodes channels) }
+    ensures channels_value { outcome (said_report result) (tables nodes.new channels.new) ≡ step_on n (receive from to) (tables nodes.old channels.old) }
     ensures sent_value { result.sent ≡ ones result.sent_to }
 {
     reports::of_answer(election::receive(n, from, to, nodes, channels))
@@ -271,7 +273,7 @@ pub extern "C" fn election_receive(
 // 1 if the network is quiet, 0 if not.
 #[unsafe(no_mangle)]
 pub extern "C" fn election_quiet(n: u32, nodes: &[u32], channels: &[u32]) -> ValueReport
-    ensures { said_value_report result ≡ quiet_on n (at_entry nodes channels) }
+    ensures { said_value_report result ≡ quiet_on n (tables nodes.now channels.now) }
 {
     reports::of_quiet(groups::is_quiet(n, nodes, channels))
 }
@@ -279,7 +281,7 @@ pub extern "C" fn election_quiet(n: u32, nodes: &[u32], channels: &[u32]) -> Val
 // The lowest members of all groups, as a set.
 #[unsafe(no_mangle)]
 pub extern "C" fn election_groups(n: u32, nodes: &[u32], channels: &[u32]) -> ValueReport
-    ensures { said_value_report result ≡ heads_on n (at_entry nodes channels) }
+    ensures { said_value_report result ≡ heads_on n (tables nodes.now channels.now) }
 {
     reports::of_heads(groups::heads(n, nodes, channels))
 }
@@ -287,7 +289,7 @@ pub extern "C" fn election_groups(n: u32, nodes: &[u32], channels: &[u32]) -> Va
 // The group of node u and its collectors.
 #[unsafe(no_mangle)]
 pub extern "C" fn election_group_of(n: u32, u: u32, nodes: &[u32], channels: &[u32]) -> GroupReport
-    ensures result_value { said_group_report result ≡ group_on n u (at_entry nodes channels) }
+    ensures result_value { said_group_report result ≡ group_on n u (tables nodes.now channels.now) }
     ensures collector_value { result.collector ≡ the_one result.collectors }
 {
     reports::of_group(groups::group_of(n, u, nodes, channels))
@@ -311,7 +313,7 @@ pub extern "C" fn election_save(
     channels: &[u32],
     out: &mut [u8],
 ) -> SaveReport
-    ensures { outcome (said_save_report result) out.new ≡ save_on n (at_entry nodes channels) out.old }
+    ensures { outcome (said_save_report result) out.new ≡ save_on n (tables nodes.now channels.now) out.old }
 {
     reports::of_save(image_snapshot::save(n, nodes, channels, out))
 }
@@ -323,7 +325,7 @@ pub extern "C" fn election_restore(
     nodes: &mut [u32],
     channels: &mut [u32],
 ) -> CheckReport
-    ensures { outcome (said_check_report result) (at_exit nodes channels) ≡ restore_on image.now (at_entry nodes channels) }
+    ensures { outcome (said_check_report result) (tables nodes.new channels.new) ≡ restore_on image.now (tables nodes.old channels.old) }
 {
     reports::of_check(image_snapshot::restore(image, nodes, channels))
 }
@@ -351,7 +353,7 @@ pub extern "C" fn election_draw(
     channels: &[u32],
     out: &mut [u8],
 ) -> SaveReport
-    ensures { outcome (said_save_report result) out.new ≡ draw_on n (at_entry nodes channels) out.old }
+    ensures { outcome (said_save_report result) out.new ≡ draw_on n (tables nodes.now channels.now) out.old }
 {
     reports::of_drawn(drawing::draw(n, nodes, channels, out))
 }
@@ -371,7 +373,7 @@ pub extern "C" fn election_read_sketch(
     nodes: &mut [u32],
     channels: &mut [u32],
 ) -> CheckReport
-    ensures { outcome (said_check_report result) (at_exit nodes channels) ≡ read_on text.now (at_entry nodes channels) }
+    ensures { outcome (said_check_report result) (tables nodes.new channels.new) ≡ read_on text.now (tables nodes.old channels.old) }
 {
     reports::of_check(drawing::read(text, nodes, channels))
 }

@@ -76,11 +76,19 @@ fn done(letter: u8, set: u16, from: u32, level: ReferenceLevel) -> AnswerReport
     }
 }
 
+// A rule's letter. Called and not written out, so that the compiler makes no table of jumps of it in each event's call (docs/DECISIONS.md, 118).
+#[inline(never)]
+fn rule_letter(rule: Rule, set: u16) -> u8
+    ensures { result ≡ (said_rule rule set).value.rule }
+{
+    answers::letter(Answer::Done(rule, set))
+}
+
 // A rule carried out: A has the node adopted from, P the level taken.
 fn of_rule(rule: Rule, set: u16) -> AnswerReport
     ensures { (said_report result ≡ said_rule rule set) × (result.sent ≡ ones result.sent_to) }
 {
-    let letter = answers::letter(Answer::Done(rule, set));
+    let letter = rule_letter(rule, set);
     match rule {
         Rule::AdoptLpIfPriority(v) => done(letter, set, v, no_level()),
         Rule::PropagateLargestRefLevel(level) => done(letter, set, 0, level),

@@ -1,5 +1,7 @@
 // What an answer says, as numbers (document 01, "Returned numbers"): the returned number, the rule's letter, the messages sent.
 // Every function takes any answer; its contract is one number of `said` (crate `protocol`, specs/Answer.antt).
+#![tactic(auto)]
+
 ghost use Rattle.std.specs.Prelude.{◌≡◌};
 ghost use Rattle.std.specs.Int.Count.{ones};
 ghost use Rattle.protocol.specs.Answer.{said, said_rule};

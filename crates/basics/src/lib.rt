@@ -1,1 +1,2 @@
 // Definitions and laws that every crate may use; no code.
+#![tactic(auto)]

@@ -47,7 +47,7 @@ module _ (n : ℕ) (t₀ : Tables) (input : List ℕ) (from : ℕ) (out₀ : Lis
       → (u : Tables) (mid : List ℕ) (after : ℕ)
       → Poured out offset (command_line_on n t k (command_of l)) mid after → after ≤ offset + 35 → u ≡ after_command_on n t (command_of l)
       → Running u mid (end + 1) (k + 1) after
-  unfolding event_lines_on after_lines_on
+  unfolding event_lines_on
   run-next t out start k offset r h end ends later l line u mid after x near tabs =
       let ls : lines_of (drop start input) ≡ l ∷ lines_of (drop (end + 1) input) =
       lines_at input start end h ends ∙ ap (λ (y : List ℕ). y ∷ lines_of (drop (end + 1) input)) (sym line) in
@@ -71,7 +71,7 @@ module _ (n : ℕ) (t₀ : Tables) (input : List ℕ) (from : ℕ) (out₀ : Lis
       → (out ≡ poured out₀ at (event_lines_on n t₀ 1 (lines_of (drop from input))))
       × (offset ≡ at + length (event_lines_on n t₀ 1 (lines_of (drop from input)))) × (offset < 2 ^ 28)
       × (t ≡ after_lines_on n t₀ (lines_of (drop from input)))
-  unfolding event_lines_on after_lines_on
+  unfolding event_lines_on
   run-done t out start k offset r h small low =
       let none = lines-at-end input start h in
       let text : r.text ≡ event_lines_on n t₀ 1 (lines_of (drop from input)) =

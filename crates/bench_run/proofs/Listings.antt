@@ -71,7 +71,7 @@ module _ (n : ℕ) (low : 1 ≤ n) (few : n ≤ 16) where
   lines_same : (s : State) → Good n s → (k : ℕ) (ls : List (List ℕ))
       → (event_lines_on n (tables_of n s.network) k ls ≡ event_lines n s.network k ls)
       × (station_lines_on n (after_lines_on n (tables_of n s.network) ls) ≡ station_lines n (after_lines n s.network ls))
-  unfolding event_lines_on event_lines after_lines_on after_lines
+  unfolding event_lines_on event_lines
   lines_same s good k [] = (refl, stations-same s good)
   lines_same s good k (l ∷ ls) =
       let c = command_of l in

@@ -1,9 +1,9 @@
 // The event lines: each is carried out on the tables and printed.
 ghost use Rattle.std.specs.Prelude.{◌≡◌, ◌+◌, ◌^◌, ◌≤◌, ◌<◌, length, drop};
 ghost use Rattle.commands.specs.Commands.{lines_of, command_of};
-ghost use Rattle.tables.specs.Tables.{at_entry, at_exit};
 ghost use Rattle.text.specs.inner.Poured.{poured};
 ghost use Rattle.bench_run.specs.inner.OnTables.{command_line_on, after_command_on, event_lines_on, after_lines_on};
+ghost use Rattle.tables.specs.Tables.{tables};
 
 use commands::Command;
 use protocol::Answer;
@@ -19,9 +19,9 @@ fn line(
     at: usize,
 ) -> usize
     requires { at < 2 ^ 30 }
-    ensures { (out.new ≡ poured out.old at (command_line_on n (at_entry nodes channels) k (command_of text.now)))
-        × (result ≡ at + length (command_line_on n (at_entry nodes channels) k (command_of text.now))) × (result ≤ at + 35)
-        × (at_exit nodes channels ≡ after_command_on n (at_entry nodes channels) (command_of text.now)) }
+    ensures { (out.new ≡ poured out.old at (command_line_on n (tables nodes.old channels.old) k (command_of text.now)))
+        × (result ≡ at + length (command_line_on n (tables nodes.old channels.old) k (command_of text.now))) × (result ≤ at + 35)
+        × (tables nodes.new channels.new ≡ after_command_on n (tables nodes.old channels.old) (command_of text.now)) }
 {
     match commands::parse(text) {
         Command::Up(u, v) => {
@@ -51,9 +51,9 @@ pub fn lines(
     at: usize,
 ) -> usize
     requires { (at ≤ 64) × (length input.now ≤ 65536) }
-    ensures { (out.new ≡ poured out.old at (event_lines_on n (at_entry nodes channels) 1 (lines_of (drop from input.now))))
-        × (result ≡ at + length (event_lines_on n (at_entry nodes channels) 1 (lines_of (drop from input.now))))
-        × (result < 2 ^ 28) × (at_exit nodes channels ≡ after_lines_on n (at_entry nodes channels) (lines_of (drop from input.now))) }
+    ensures { (out.new ≡ poured out.old at (event_lines_on n (tables nodes.old channels.old) 1 (lines_of (drop from input.now))))
+        × (result ≡ at + length (event_lines_on n (tables nodes.old channels.old) 1 (lines_of (drop from input.now))))
+        × (result < 2 ^ 28) × (tables nodes.new channels.new ≡ after_lines_on n (tables nodes.old channels.old) (lines_of (drop from input.now))) }
 {
     let mut start = from;
     let mut k: u32 = 1;

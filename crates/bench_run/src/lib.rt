@@ -1,5 +1,7 @@
 // The bench: from the bytes of an input to the bytes of its listing (document 01, "The bench program").
 // No function requires anything: what cannot be done is refused, and nothing lent changes.
+#![tactic(auto)]
+
 ghost use Rattle.std.specs.Prelude.{◌≡◌};
 ghost use Rattle.refusal.specs.Outcome.{outcome};
 ghost use Rattle.bench_run.specs.Run.{said_run, run_on};
@@ -12,7 +14,7 @@ mod plot;
 mod stations;
 
 // The listing's length in bytes (0), or too little room for it (14).
-#[derive(Drop)]
+#[derive(Clone, Copy)]
 pub enum Ran {
     Listed(usize),
     Refused(Refusal),

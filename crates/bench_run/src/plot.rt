@@ -1,8 +1,8 @@
 // The listing of an input: the plot that its first line names, or "bad plot".
 ghost use Rattle.std.specs.Prelude.{◌≡◌, ◌*◌, ◌≤◌, length, drop};
 ghost use Rattle.commands.specs.Commands.{lines_of};
-ghost use Rattle.tables.specs.Tables.{width, cell_width};
-ghost use Rattle.tables.specs.inner.Fit.{given, Sized};
+ghost use Rattle.tables.specs.Tables.{tables, width, cell_width};
+ghost use Rattle.tables.specs.inner.Fit.{Sized};
 ghost use Rattle.text.specs.inner.Poured.{poured};
 ghost use Rattle.bench_run.specs.Listing.{plot_listing, listing};
 
@@ -30,7 +30,7 @@ fn with_tables(
     channels: &mut [u32],
     out: &mut [u8],
 ) -> usize
-    requires { Sized n (given nodes channels) × (length input.now ≤ 65536) }
+    requires { Sized n (tables nodes.old channels.old) × (length input.now ≤ 65536) }
     ensures { (out.new ≡ poured out.old 0 (plot_listing n (lines_of (drop from input.now))))
         × (result ≡ length (plot_listing n (lines_of (drop from input.now)))) }
 {

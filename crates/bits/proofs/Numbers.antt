@@ -10,7 +10,7 @@ use lib.Seq.{take_at, drop_at, get_or-drop}
 use lib.Pow.{pow-add, mod-pow-add, mod-mod-pow, shr-shr}
 use lib.Pow
 use lib.Arith.{digits_lt}
-use Rattle.bits.specs.Bits.{bits, number, field}
+use Rattle.bits.specs.Bits.{bits, number}
 
 pub length-bits : (w v : ℕ) → length (bits w v) ≡ w
 unfolding bits

@@ -1,5 +1,7 @@
 // Fields of 0 to 32 bits at any bit place of bytes, most significant bit first: through 64 bits at a time, byte by byte near the end.
 // These are leaves: only our crates call them, with the bounds that `requires` states.
+#![tactic(auto)]
+
 ghost use Rattle.std.specs.Prelude.{◌≡◌, ◌++◌, ℕ, ◌+◌, ◌*◌, ◌/◌, ◌%◌, ◌^◌, ◌≤◌, ◌<◌, length, drop, get_or};
 ghost use Rattle.bits.specs.Bits.{bits, unpacked, field, total, spread, gathered};
 ghost use Rattle.bits.specs.inner.Written.{over, written, word_bits, RoomFor};
@@ -144,7 +146,7 @@ fn put_long(buf: &mut [u8], at: usize, width: usize, value: u64)
 }
 
 // Fields packed: so many whole numbers of 64 bits, and then `count` bits, held.
-#[derive(Drop)]
+#[derive(Clone, Copy)]
 struct Packed {
     full: usize,
     count: usize,

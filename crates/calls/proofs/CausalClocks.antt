@@ -11,7 +11,7 @@ use Rattle.basics.proofs.AllOf.{AllOf, none, all_head, all_drop, all_snoc, all_w
 use Rattle.basics.proofs.Tests.{Choice, yes!, no!, choice}
 use Rattle.protocol.specs.Network.{Message, Network}
 use Rattle.protocol.specs.Step.{Event, is_down}
-use Rattle.calls.specs.Causal.{sendings, unheard, Causal, HappensBefore, at_one_node, sent_to_received, in_aRow}
+use Rattle.calls.specs.Causal.{sendings, unheard, Causal, HappensBefore, at_one_node, sent_to_received, in_a_row}
 use Rattle.calls.specs.History.{Entry, History, is_sending, sent_since, received_since, State, grown}
 use Rattle.calls.proofs.Good.{Good, good-grown}
 
@@ -49,7 +49,7 @@ happens-before h causal x y (sent_to_received newer older others v u e is first)
     let sent = (causal newer older y e).received v u is in
     let same : sent.sending ≡ x = cc in
     rw (← same) sent.smaller
-happens-before h causal x y (in_aRow {y = z} a b) = omega (arith, happens-before h causal x z a, happens-before h causal z y b)
+happens-before h causal x y (in_a_row {y = z} a b) = omega (arith, happens-before h causal x z a, happens-before h causal z y b)
 
 pub good-causal : (n : ℕ) (s : State) → Good n s → CausalClocks s.history s.network
 good-causal n s g = record {

@@ -11,7 +11,7 @@ use Rattle.protocol.specs.Refusal.{misnamed, late, has_room, crowded, returned, 
 use Rattle.protocol.specs.Rules.{absent, down_rule, larger, largest, deltas, of_level, one_level_rule, equal_pairs_rule, receipt_rule}
 use Rattle.protocol.specs.Sink.{above, sink}
 use Rattle.protocol.specs.Step.{up, down, receive, carried, local_up, local_down, local_ignored, local_taken, post, commit, step}
-use Rattle.calls.specs.Causal.{unheard, SentBefore, Causal, HappensBefore, at_one_node, sent_to_received, in_aRow}
+use Rattle.calls.specs.Causal.{unheard, SentBefore, Causal, HappensBefore, at_one_node, sent_to_received, in_a_row}
 use Rattle.calls.specs.History.{Entry, History, entry, advance, grown}
 use Rattle.calls.proofs.CausalClocks.{grown-causal}
 
@@ -71,7 +71,7 @@ worked =
       claimed = (causal [] (second ∷ first ∷ []) passed_by refl).received 1 2 refl;
       at-node-1 = here;
       to-node-2 = there;
-      in_a_row = in_aRow here there;
+      in_a_row = in_a_row here there;
       lost = refl;
       behind-a-down = refl;
       two-wait = refl;

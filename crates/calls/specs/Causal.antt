@@ -41,4 +41,4 @@ pub data HappensBefore (h : History) : Entry → Entry → Type 0 where
       → HappensBefore h x y
   sent_to_received : {x y : Entry} (newer older others : History) (v u : ℕ) → h ≡ newer ++ (y ∷ older) → y.event ≡ receive v u
       → unheard older v u ≡ x ∷ others → HappensBefore h x y
-  in_aRow : {x y z : Entry} → HappensBefore h x y → HappensBefore h y z → HappensBefore h x z
+  in_a_row : {x y z : Entry} → HappensBefore h x y → HappensBefore h y z → HappensBefore h x z

@@ -1,5 +1,7 @@
 // The clock, lent and advanced where the firmware keeps it (document 01, "The clock").
 // Takes any clock and any stamp; a refused call leaves the clock as it was.
+#![tactic(auto)]
+
 ghost use Rattle.std.specs.Prelude.{◌≡◌};
 ghost use Rattle.height.specs.Clock.{said_moved};
 ghost use Rattle.refusal.specs.Outcome.{outcome};
@@ -8,7 +10,7 @@ ghost use Rattle.clock.specs.Advance.{advance_on};
 use height::{Moved, Time};
 
 // The clock to keep, and the answer.
-#[derive(Drop)]
+#[derive(Clone, Copy)]
 pub struct Advanced {
     pub clock: Time,
     pub moved: Moved,

@@ -1,5 +1,7 @@
 // The lines of a bench input: where one ends, the plot that the first names, the event that another names.
 // `head` and `parse` take any line: what is no head is 0, and what is no event is malformed.
+#![tactic(auto)]
+
 ghost use Rattle.std.specs.Prelude.{[], ◌∷◌, ◌≡◌, suc, ◌+◌, ◌≤◌, length, take, drop};
 ghost use Rattle.commands.specs.Commands.{is_digit, number_of, in_range, to_space, named, command_of, head_of};
 ghost use Rattle.commands.specs.inner.Leaves.{to_newline, said_command};
@@ -7,7 +9,7 @@ ghost use Rattle.commands.specs.inner.Leaves.{to_newline, said_command};
 use refusal::Refusal;
 
 // What an event line names, or that it is malformed (15).
-#[derive(Drop)]
+#[derive(Clone, Copy)]
 pub enum Command {
     Up(u32, u32),
     Down(u32, u32),

@@ -1,3 +1,4 @@
 -- Laws for the proofs of `decision`'s functions.
 pub mod Depths
 pub mod Descent
+pub mod SmallestDelta

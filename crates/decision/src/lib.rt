@@ -1,6 +1,8 @@
 // What an event does at its node, decided by value: which rule, the height after it, and the set it sends to.
 // A node's heights are its row's, with the view of v passed beside it: nothing is written before everything is decided.
 // These are leaves: only `election` calls them, with the bounds that `requires` states.
+#![tactic(auto)]
+
 pub mod levels;
 pub mod outcome;
 pub mod rule;
@@ -11,7 +13,7 @@ use protocol::Rule;
 
 // What an event has found at its node when its rule is chosen: the rule, the moved clock, both sets, the view of the other node.
 // The definition's record `Local` holds what the event then leaves: the height after the rule and the set sent to as well.
-#[derive(Drop)]
+#[derive(Clone, Copy)]
 pub struct Decision {
     pub rule: Rule,
     pub clock: Time,
@@ -21,7 +23,7 @@ pub struct Decision {
 }
 
 // A node's height after a rule, or the refusal of a depth out of range (8).
-#[derive(Drop)]
+#[derive(Clone, Copy)]
 pub enum After {
     New(Height),
     TooDeep,

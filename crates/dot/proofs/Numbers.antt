@@ -10,7 +10,7 @@ use lib.ListN.{length, get_or, take, drop}
 use lib.Seq.{drop-append_seam}
 use Rattle.basics.proofs.Tests.{and_both, Choice, yes!, no!, choice}
 use Rattle.commands.specs.Commands.{none, is_digit, number_of}
-use Rattle.text.specs.Text.{decimal, digits}
+use Rattle.text.specs.Text.{decimal}
 use Rattle.text.proofs.TextLaws.{digits-one, digits_more}
 use Rattle.dot.specs.Sketch.{digits_at, number_at}
 

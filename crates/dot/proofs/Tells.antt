@@ -1,6 +1,6 @@
 -- A text tells its nodes and its edges, whatever its head and its mark are: what is found in the text of n and es is n and es.
 -- Assumes at most 16 nodes and numbers below 100.
-use Prim.Native.Nat.{ℕ, ◌+◌, ◌≤◌, ◌<◌}
+use Prim.Native.Nat.{ℕ, ◌≤◌, ◌<◌}
 use native.Mathlib.Nat.{zero-add}
 use native.Mathlib.Omega.{arith}
 use mathlib.Core.Bool.{true, false}

@@ -3,7 +3,7 @@
 -- Assumes 1 to 16 nodes and links that hold (not refused with 1 or 17).
 use Prim.Native.Nat.{ℕ, ◌≤◌}
 use native.Mathlib.Omega.{arith}
-use mathlib.Core.Bool.{Bool, true, false, not, ◌&&◌, ◌||◌, or-false}
+use mathlib.Core.Bool.{Bool, true, false, ◌&&◌, ◌||◌, or-false}
 use mathlib.Core.List.{List, [], ◌∷◌, map}
 use mathlib.Core.Logic.{inl, inr}
 use mathlib.Core.Path.{◌≡◌, refl, sym, ap, ap₂, ◌∙◌}
@@ -25,7 +25,7 @@ use Rattle.nodeset.specs.NodeSet.{set_of, same_node}
 use Rattle.protocol.specs.Answer.{Said, carried_out}
 use Rattle.protocol.specs.Network.{Node, fresh, up_to}
 use Rattle.protocol.specs.Refusal.{answer}
-use Rattle.protocol.specs.Step.{Event, up, peer}
+use Rattle.protocol.specs.Step.{Event, peer}
 use Rattle.refusal.specs.Outcome.{Answered, Outcome, outcome, refused_with}
 use Rattle.refusal.specs.Refusal.{why}
 use Rattle.refusal.specs.declared.Why.{Why}
@@ -33,7 +33,7 @@ use Rattle.tables.specs.Load.{load, tables_of}
 use Rattle.tables.specs.Tables.{Tables, sized}
 use Rattle.tables.proofs.Back.{storable, load-back}
 use Rattle.drawing.specs.Drawing.{points}
-use Rattle.drawing.specs.Links.{names, named_by, links_hold, ups_of}
+use Rattle.drawing.specs.Links.{named_by, links_hold, ups_of}
 use Rattle.drawing.specs.Read.{read_links, read_sized, read_sketch, read_on}
 use Rattle.drawing.proofs.Arrows.{linked-points}
 use Rattle.drawing.proofs.Risen.{risen, turned}

@@ -10,7 +10,6 @@ use Rattle.basics.specs.Functions.{after_all, say_all}
 use Rattle.basics.proofs.Tests.{and_left, and_right}
 use Rattle.calls.specs.History.{State, advance}
 use Rattle.dot.specs.declared.Edge.{Edge}
-use Rattle.dot.proofs.Exactly.{exactly}
 use Rattle.protocol.specs.Network.{Two}
 use Rattle.protocol.specs.Refusal.{answer}
 use Rattle.protocol.specs.Step.{up, peer}

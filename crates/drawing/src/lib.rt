@@ -1,11 +1,13 @@
 // Plot drawings in the DOT language of Graphviz (document 02 [2]): a plot written as a directed graph, a crew's sketch read into tables.
 // No function requires anything: what cannot be done is refused, and nothing lent changes.
+#![tactic(auto)]
+
 ghost use Rattle.std.specs.Prelude.{◌≡◌};
 ghost use Rattle.lent.specs.Check.{said_check};
 ghost use Rattle.refusal.specs.Outcome.{outcome};
-ghost use Rattle.tables.specs.Tables.{at_entry, at_exit};
 ghost use Rattle.drawing.specs.Draw.{said_drawn, draw_on, drawing_length};
 ghost use Rattle.drawing.specs.Read.{nodes_of, read_on};
+ghost use Rattle.tables.specs.Tables.{tables};
 
 use lent::Checked;
 use refusal::Refusal;
@@ -14,7 +16,7 @@ mod linking;
 mod writing;
 
 // What drawing answers: the drawing's length in bytes (0), or sizes (1), the pair at fault (2), the untimely pair (18), too little room (14).
-#[derive(Drop)]
+#[derive(Clone, Copy)]
 pub enum Drawn {
     Written(usize),
     Refused(Refusal),
@@ -22,7 +24,7 @@ pub enum Drawn {
 
 // The drawing of the plot that the tables hold goes to the front of `out`.
 pub fn draw(n: u32, nodes: &[u32], channels: &[u32], out: &mut [u8]) -> Drawn
-    ensures { outcome (said_drawn result) out.new ≡ draw_on n (at_entry nodes channels) out.old }
+    ensures { outcome (said_drawn result) out.new ≡ draw_on n (tables nodes.now channels.now) out.old }
 {
     match lent::check(n, nodes, channels) {
         Checked::Sound => writing::checked(n, nodes, channels, out),
@@ -53,7 +55,7 @@ pub fn drawing_length(n: u32) -> usize
 
 // The plot of a sketch goes into the tables: 16, 1, 17, or done (0).
 pub fn read(text: &[u8], nodes: &mut [u32], channels: &mut [u32]) -> Checked
-    ensures { outcome (said_check result) (at_exit nodes channels) ≡ read_on text.now (at_entry nodes channels) }
+    ensures { outcome (said_check result) (tables nodes.new channels.new) ≡ read_on text.now (tables nodes.old channels.old) }
 {
     let form = dot::sketch::form(text);
     if form.nodes == 0 {

@@ -8,10 +8,10 @@ ghost use Rattle.nodeset.specs.NodeSet.{member};
 ghost use Rattle.protocol.specs.Network.{Two, fresh};
 ghost use Rattle.protocol.specs.Step.{up};
 ghost use Rattle.tables.specs.Load.{tables_of};
-ghost use Rattle.tables.specs.Tables.{at_entry, at_exit};
-ghost use Rattle.tables.specs.inner.Fit.{given, Sized};
+ghost use Rattle.tables.specs.inner.Fit.{Sized};
 ghost use Rattle.drawing.specs.Links.{is_link, links_hold, ups_of};
 ghost use Rattle.drawing.specs.inner.Seen.{edges_read, Seen};
+ghost use Rattle.tables.specs.Tables.{tables};
 
 use dot::Edge;
 
@@ -83,8 +83,8 @@ pub fn hold(n: u32, text: &[u8], from: usize) -> bool
 
 // Both channels of a link go up.
 fn link(n: u32, e: Edge, nodes: &mut [u32], channels: &mut [u32])
-    ensures { at_exit nodes channels
-        ≡ (step_on n (up e.second e.first) (step_on n (up e.first e.second) (at_entry nodes channels)).after).after }
+    ensures { tables nodes.new channels.new
+        ≡ (step_on n (up e.second e.first) (step_on n (up e.first e.second) (tables nodes.old channels.old)).after).after }
 {
     election::up(n, e.first, e.second, nodes, channels);
     election::up(n, e.second, e.first, nodes, channels);
@@ -92,8 +92,8 @@ fn link(n: u32, e: Edge, nodes: &mut [u32], channels: &mut [u32])
 
 // From an offset on, line by line.
 fn link_all(n: u32, text: &[u8], from: usize, nodes: &mut [u32], channels: &mut [u32])
-    requires { (1 ≤ n) × (n ≤ 16) × Ahead text.now from (edges_read text.now) × (given nodes channels ≡ tables_of n fresh) }
-    ensures { at_exit nodes channels ≡ tables_of n (grown n (ups_of (edges_read text.now))).network }
+    requires { (1 ≤ n) × (n ≤ 16) × Ahead text.now from (edges_read text.now) × (tables nodes.old channels.old ≡ tables_of n fresh) }
+    ensures { tables nodes.new channels.new ≡ tables_of n (grown n (ups_of (edges_read text.now))).network }
 {
     let mut at = from;
     while 2 < text.len() - at {
@@ -104,8 +104,8 @@ fn link_all(n: u32, text: &[u8], from: usize, nodes: &mut [u32], channels: &mut 
 }
 
 pub fn build(n: u32, text: &[u8], from: usize, nodes: &mut [u32], channels: &mut [u32])
-    requires { Sized n (given nodes channels) × Ahead text.now from (edges_read text.now) }
-    ensures { at_exit nodes channels ≡ tables_of n (grown n (ups_of (edges_read text.now))).network }
+    requires { Sized n (tables nodes.old channels.old) × Ahead text.now from (edges_read text.now) }
+    ensures { tables nodes.new channels.new ≡ tables_of n (grown n (ups_of (edges_read text.now))).network }
 {
     lent::fresh(n, nodes, channels);
     link_all(n, text, from, nodes, channels);

@@ -5,12 +5,11 @@ ghost use Rattle.lent.specs.Check.{check_on};
 ghost use Rattle.protocol.specs.Network.{Node, up_to, own};
 ghost use Rattle.refusal.specs.Outcome.{outcome, put_front};
 ghost use Rattle.tables.specs.Load.{load};
-ghost use Rattle.tables.specs.Tables.{at_entry};
-ghost use Rattle.tables.specs.inner.Fit.{given};
 ghost use Rattle.text.specs.Text.{in_turn};
 ghost use Rattle.text.specs.inner.Poured.{poured};
 ghost use Rattle.drawing.specs.Draw.{said_drawn};
 ghost use Rattle.drawing.specs.Drawing.{points, arrow_to, arrows_of, drawing};
+ghost use Rattle.tables.specs.Tables.{tables};
 
 use super::Drawn;
 use dot::{Edge, lines};
@@ -20,8 +19,8 @@ use refusal::Refusal;
 // ---- looks at the tables
 
 fn is_up(n: u32, u: u32, v: u32, nodes: &[u32], channels: &[u32]) -> bool
-    requires { ((check_on n (given nodes channels)).number ≡ 0) × Node n u }
-    ensures { result ≡ up_to (load n (at_entry nodes channels)) u v }
+    requires { ((check_on n (tables nodes.now channels.now)).number ≡ 0) × Node n u }
+    ensures { result ≡ up_to (load n (tables nodes.now channels.now)) u v }
 {
     let row = tables::rows::node(n, u, nodes);
     let neighbors = tables::rows::neighbors(row);
@@ -30,8 +29,8 @@ fn is_up(n: u32, u: u32, v: u32, nodes: &[u32], channels: &[u32]) -> bool
 }
 
 fn own(n: u32, u: u32, nodes: &[u32], channels: &[u32]) -> Height
-    requires { ((check_on n (given nodes channels)).number ≡ 0) × Node n u }
-    ensures { result ≡ own (load n (at_entry nodes channels)) u }
+    requires { ((check_on n (tables nodes.now channels.now)).number ≡ 0) × Node n u }
+    ensures { result ≡ own (load n (tables nodes.now channels.now)) u }
 {
     let row = tables::rows::node(n, u, nodes);
     tables::rows::height_in(n, row, u)
@@ -39,8 +38,8 @@ fn own(n: u32, u: u32, nodes: &[u32], channels: &[u32]) -> Height
 
 // Whether an arrow leads from a to b.
 fn is_arrow(n: u32, a: u32, b: u32, nodes: &[u32], channels: &[u32]) -> bool
-    requires { ((check_on n (given nodes channels)).number ≡ 0) × Node n a × Node n b }
-    ensures { result ≡ points (load n (at_entry nodes channels)) a b }
+    requires { ((check_on n (tables nodes.now channels.now)).number ≡ 0) × Node n a × Node n b }
+    ensures { result ≡ points (load n (tables nodes.now channels.now)) a b }
 {
     let linked = is_up(n, a, b, nodes, channels) & is_up(n, b, a, nodes, channels);
     let low = own(n, b, nodes, channels);
@@ -60,8 +59,8 @@ fn put_arrow(
     out: &mut [u8],
     at: usize,
 ) -> usize
-    requires { ((check_on n (given nodes channels)).number ≡ 0) × Node n a × Node n b × (at < 2 ^ 30) }
-    ensures { let l = edge_lines arrow (arrow_to (load n (at_entry nodes channels)) a b) in
+    requires { ((check_on n (tables nodes.now channels.now)).number ≡ 0) × Node n a × Node n b × (at < 2 ^ 30) }
+    ensures { let l = edge_lines arrow (arrow_to (load n (tables nodes.now channels.now)) a b) in
         (out.new ≡ poured out.old at l) × (result ≡ at + length l) }
 {
     if is_arrow(n, a, b, nodes, channels) {
@@ -83,8 +82,8 @@ fn put_arrows_from(
     out: &mut [u8],
     at: usize,
 ) -> usize
-    requires { ((check_on n (given nodes channels)).number ≡ 0) × Node n a × (at < 2 ^ 29) }
-    ensures { let l = in_turn n (λ b. edge_lines arrow (arrow_to (load n (at_entry nodes channels)) a b)) in
+    requires { ((check_on n (tables nodes.now channels.now)).number ≡ 0) × Node n a × (at < 2 ^ 29) }
+    ensures { let l = in_turn n (λ b. edge_lines arrow (arrow_to (load n (tables nodes.now channels.now)) a b)) in
         (out.new ≡ poured out.old at l) × (result ≡ at + length l) }
 {
     let mut offset = at;
@@ -98,8 +97,8 @@ fn put_arrows_from(
 
 // The lines of all arrows.
 fn put_arrows(n: u32, nodes: &[u32], channels: &[u32], out: &mut [u8], at: usize) -> usize
-    requires { ((check_on n (given nodes channels)).number ≡ 0) × (at < 2 ^ 28) }
-    ensures { let l = edge_lines arrow (arrows_of n (load n (at_entry nodes channels))) in
+    requires { ((check_on n (tables nodes.now channels.now)).number ≡ 0) × (at < 2 ^ 28) }
+    ensures { let l = edge_lines arrow (arrows_of n (load n (tables nodes.now channels.now))) in
         (out.new ≡ poured out.old at l) × (result ≡ at + length l) }
 {
     let mut offset = at;
@@ -127,9 +126,9 @@ fn put_nodes(n: u32, out: &mut [u8], at: usize) -> usize
 
 // As far as the bytes reach, and the length of it all.
 fn write(n: u32, nodes: &[u32], channels: &[u32], out: &mut [u8]) -> usize
-    requires { (check_on n (given nodes channels)).number ≡ 0 }
-    ensures { (out.new ≡ poured out.old 0 (drawing n (load n (at_entry nodes channels))))
-        × (result ≡ length (drawing n (load n (at_entry nodes channels)))) }
+    requires { (check_on n (tables nodes.now channels.now)).number ≡ 0 }
+    ensures { (out.new ≡ poured out.old 0 (drawing n (load n (tables nodes.now channels.now))))
+        × (result ≡ length (drawing n (load n (tables nodes.now channels.now)))) }
 {
     let a = lines::put_digraph_head(out, 0);
     let b = put_nodes(n, out, a);
@@ -139,8 +138,8 @@ fn write(n: u32, nodes: &[u32], channels: &[u32], out: &mut [u8]) -> usize
 
 // 14, or the drawing goes to the front of the bytes; it is made twice, first to see how long it is.
 pub fn checked(n: u32, nodes: &[u32], channels: &[u32], out: &mut [u8]) -> Drawn
-    requires { (check_on n (given nodes channels)).number ≡ 0 }
-    ensures { outcome (said_drawn result) out.new ≡ put_front (drawing n (load n (at_entry nodes channels))) out.old }
+    requires { (check_on n (tables nodes.now channels.now)).number ≡ 0 }
+    ensures { outcome (said_drawn result) out.new ≡ put_front (drawing n (load n (tables nodes.now channels.now))) out.old }
 {
     let mut scratch = [0u8; 1];
     let size = write(n, nodes, channels, &mut scratch);

@@ -7,8 +7,8 @@ ghost use Rattle.nodeset.specs.NodeSet.{member};
 ghost use Rattle.protocol.specs.Answer.{said};
 ghost use Rattle.protocol.specs.Network.{Node, is_node};
 ghost use Rattle.refusal.specs.Outcome.{outcome};
-ghost use Rattle.tables.specs.Tables.{cell_width, at_entry, at_exit, tables};
-ghost use Rattle.tables.specs.inner.Fit.{given, RowFits, TablesFit};
+ghost use Rattle.tables.specs.Tables.{cell_width, tables};
+ghost use Rattle.tables.specs.inner.Fit.{RowFits, TablesFit};
 ghost use Rattle.election.specs.StepOn.{step_at};
 ghost use Rattle.election.specs.inner.Deciding.{event_of, Between, Decides, DecidesBy};
 
@@ -146,7 +146,7 @@ fn decide_receipt(n: u32, u: u32, v: u32, row: &[u32], cell: &[u32]) -> Decided
 }
 
 fn decide(kind: Kind, n: u32, u: u32, v: u32, nodes: &[u32], channels: &[u32]) -> Decided
-    requires { Between n (given nodes channels) u v }
+    requires { Between n (tables nodes.now channels.now) u v }
     ensures { Decides kind n (tables nodes.now channels.now) u v result }
 {
     let row = tables::rows::node(n, u, nodes);
@@ -163,8 +163,8 @@ fn decide(kind: Kind, n: u32, u: u32, v: u32, nodes: &[u32], channels: &[u32]) -
 // ---- the event of this kind at u with v
 
 pub fn event(kind: Kind, n: u32, u: u32, v: u32, nodes: &mut [u32], channels: &mut [u32]) -> Answer
-    requires { TablesFit n (given nodes channels) }
-    ensures { outcome (said result) (at_exit nodes channels) ≡ step_at n (event_of kind u v) (at_entry nodes channels) }
+    requires { TablesFit n (tables nodes.old channels.old) }
+    ensures { outcome (said result) (tables nodes.new channels.new) ≡ step_at n (event_of kind u v) (tables nodes.old channels.old) }
 {
     if !are_named(n, u, v) {
         return Answer::Refused(Refusal::NodeNumber);

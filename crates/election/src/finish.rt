@@ -4,8 +4,7 @@ ghost use Rattle.height.specs.inner.Stored.{Negated};
 ghost use Rattle.protocol.specs.Answer.{said};
 ghost use Rattle.protocol.specs.Network.{Node};
 ghost use Rattle.refusal.specs.Outcome.{outcome};
-ghost use Rattle.tables.specs.Tables.{width, at_entry, at_exit, node_of};
-ghost use Rattle.tables.specs.inner.Fit.{given};
+ghost use Rattle.tables.specs.Tables.{tables, width, node_of};
 ghost use Rattle.tables.specs.inner.Written.{put_node};
 ghost use Rattle.election.specs.StepOn.{step_at};
 ghost use Rattle.election.specs.inner.Deciding.{event_of, Ready, row_after};
@@ -46,8 +45,8 @@ pub fn finish(
     nodes: &mut [u32],
     channels: &mut [u32],
 ) -> Answer
-    requires { Ready kind n (given nodes channels) u v d }
-    ensures { outcome (said result) (at_exit nodes channels) ≡ step_at n (event_of kind u v) (at_entry nodes channels) }
+    requires { Ready kind n (tables nodes.old channels.old) u v d }
+    ensures { outcome (said result) (tables nodes.new channels.new) ≡ step_at n (event_of kind u v) (tables nodes.old channels.old) }
 {
     let row = tables::rows::node(n, u, nodes);
     let After::New(own) = decision::outcome::height_after(n, row, u, v, d) else {

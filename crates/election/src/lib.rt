@@ -1,11 +1,13 @@
 // The three events on lent tables (document 01, "The three events"). Any n, u, v and any tables may be handed over.
 // No function requires anything: what cannot be done is refused, and nothing lent changes.
+#![tactic(auto)]
+
 ghost use Rattle.std.specs.Prelude.{◌≡◌};
 ghost use Rattle.protocol.specs.Answer.{said};
 ghost use Rattle.protocol.specs.Step.{up, down, receive};
 ghost use Rattle.refusal.specs.Outcome.{outcome};
-ghost use Rattle.tables.specs.Tables.{at_entry, at_exit};
 ghost use Rattle.election.specs.StepOn.{step_on};
+ghost use Rattle.tables.specs.Tables.{tables};
 
 use decision::Decision;
 use lent::Checked;
@@ -17,7 +19,7 @@ mod finish;
 mod sending;
 
 // The kind of an event: what it does to a channel before it sends.
-#[derive(Drop)]
+#[derive(Clone, Copy)]
 pub enum Kind {
     Raised,
     Dropped,
@@ -25,7 +27,7 @@ pub enum Kind {
 }
 
 // What is decided of an event before anything is written.
-#[derive(Drop)]
+#[derive(Clone, Copy)]
 pub enum Decided {
     As(Decision),
     Refused(Refusal),
@@ -33,7 +35,7 @@ pub enum Decided {
 
 // Channel u to v goes up, at u.
 pub fn up(n: u32, u: u32, v: u32, nodes: &mut [u32], channels: &mut [u32]) -> Answer
-    ensures { outcome (said result) (at_exit nodes channels) ≡ step_on n (up u v) (at_entry nodes channels) }
+    ensures { outcome (said result) (tables nodes.new channels.new) ≡ step_on n (up u v) (tables nodes.old channels.old) }
 {
     match lent::check(n, nodes, channels) {
         Checked::Sound => events::event(Kind::Raised, n, u, v, nodes, channels),
@@ -43,7 +45,7 @@ pub fn up(n: u32, u: u32, v: u32, nodes: &mut [u32], channels: &mut [u32]) -> An
 
 // Channel u to v goes down, at u.
 pub fn down(n: u32, u: u32, v: u32, nodes: &mut [u32], channels: &mut [u32]) -> Answer
-    ensures { outcome (said result) (at_exit nodes channels) ≡ step_on n (down u v) (at_entry nodes channels) }
+    ensures { outcome (said result) (tables nodes.new channels.new) ≡ step_on n (down u v) (tables nodes.old channels.old) }
 {
     match lent::check(n, nodes, channels) {
         Checked::Sound => events::event(Kind::Dropped, n, u, v, nodes, channels),
@@ -53,7 +55,7 @@ pub fn down(n: u32, u: u32, v: u32, nodes: &mut [u32], channels: &mut [u32]) -> 
 
 // The first message of channel v to u is received, at u.
 pub fn receive(n: u32, v: u32, u: u32, nodes: &mut [u32], channels: &mut [u32]) -> Answer
-    ensures { outcome (said result) (at_exit nodes channels) ≡ step_on n (receive v u) (at_entry nodes channels) }
+    ensures { outcome (said result) (tables nodes.new channels.new) ≡ step_on n (receive v u) (tables nodes.old channels.old) }
 {
     match lent::check(n, nodes, channels) {
         Checked::Sound => events::event(Kind::Received, n, u, v, nodes, channels),

@@ -29,6 +29,7 @@ map-behind e (h ∷ hs) es m =
     (λ i. let t = map-behind e hs es i in record { rest = t.rest; is = t.is; mem = mathlib.Core.List.Memᴰ.tail t.mem }) (mathlib.Core.List.Memᴰ.cases_cons m)
 
 behind-map : (e : Event) (hs : List (List Event)) (h : List Event) → Memᴰ h hs → Memᴰ (e ∷ h) (map (λ g. e ∷ g) hs)
+behind-map e [] h m = elim m [ ]
 behind-map e (g ∷ hs) h (mathlib.Core.List.Memᴰ.head i) = mathlib.Core.List.Memᴰ.head (ap (λ (l : List Event). e ∷ l) i)
 behind-map e (g ∷ hs) h (mathlib.Core.List.Memᴰ.tail m) = mathlib.Core.List.Memᴰ.tail (behind-map e hs h m)
 
@@ -64,6 +65,7 @@ begun-is rest n p (e ∷ cs) es m =
 pub is-begun : (rest : Network → List (List Event)) (n : ℕ) (p : Network) (cs : List Event) (e : Event) (h : List Event) → Memᴰ e cs
     → accepts n p e ≡ true → Memᴰ h (rest (next n p e)) → Memᴰ (e ∷ h) (begun rest n p cs)
 unfolding begun
+is-begun rest n p [] e h i a m = elim i [ ]
 is-begun rest n p (f ∷ cs) e h (mathlib.Core.List.Memᴰ.head i) a m =
     let here : Memᴰ (e ∷ h) (begun_by rest n p e (accepts n p e)) = rw a (behind-map e (rest (next n p e)) h m) in
     mathlib.Core.List.Memᴰ.append_left (begun rest n p cs) (subst (λ (x : Event). Memᴰ (e ∷ h) (begun_by rest n p x (accepts n p x))) i here)

@@ -68,6 +68,7 @@ record Parted {A : Type 0} (y : A) (l : List A) : Type 0 where
   is : l ≡ front ++ (y ∷ back)
 
 parted : {A : Type 0} (y : A) (l : List A) → Memᴰ y l → Parted y l
+parted y [] m = elim m [ ]
 parted y (x ∷ l) (Memᴰ.head e) = record { front = []; back = l; is = ap (λ (z : _). z ∷ l) (sym e) }
 parted y (x ∷ l) (Memᴰ.tail m) = let t = parted y l m in record { front = x ∷ t.front; back = t.back; is = ap (λ (z : _). x ∷ z) t.is }
 

@@ -1,15 +1,16 @@
 // What the tables show of the whole network: whether it is quiet, its groups of linked nodes, and their collectors.
 // No public function requires anything: those on tables check them once, then answer. Nothing lent is written.
+#![tactic(auto)]
+
 ghost use Rattle.std.specs.Prelude.{◌≡◌};
 ghost use Rattle.protocol.specs.Network.{Network};
 ghost use Rattle.tables.specs.Load.{load};
-ghost use Rattle.tables.specs.Tables.{at_entry};
-ghost use Rattle.tables.specs.inner.Fit.{given};
 ghost use Rattle.groups.specs.Group.{said_group, group_named, group_on};
 ghost use Rattle.groups.specs.Groups.{the_one};
 ghost use Rattle.groups.specs.Heads.{said_heads, heads_on};
 ghost use Rattle.groups.specs.Quiet.{said_quiet, quiet_on};
 ghost use Rattle.groups.specs.inner.Looks.{Passes};
+ghost use Rattle.tables.specs.Tables.{tables};
 
 use lent::Checked;
 use refusal::Refusal;
@@ -19,28 +20,28 @@ mod walks;
 mod words;
 
 // Whether the network is quiet, or sizes (1), the pair at fault (2), the untimely pair (18).
-#[derive(Drop)]
+#[derive(Clone, Copy)]
 pub enum QuietRead {
     Found(bool),
     Refused(Refusal),
 }
 
 // The lowest members of all groups, or 1, 2, 18.
-#[derive(Drop)]
+#[derive(Clone, Copy)]
 pub enum HeadsRead {
     Found(u16),
     Refused(Refusal),
 }
 
 // A group: its members, and the collectors among them.
-#[derive(Drop)]
+#[derive(Clone, Copy)]
 pub struct Group {
     pub members: u16,
     pub collectors: u16,
 }
 
 // A node's group, or 1, 2, 18, or no such node (3).
-#[derive(Drop)]
+#[derive(Clone, Copy)]
 pub enum GroupRead {
     Found(Group),
     Refused(Refusal),
@@ -48,7 +49,7 @@ pub enum GroupRead {
 
 // Whether no message waits and each channel is up exactly when the one back is.
 pub fn is_quiet(n: u32, nodes: &[u32], channels: &[u32]) -> QuietRead
-    ensures { said_quiet result ≡ quiet_on n (at_entry nodes channels) }
+    ensures { said_quiet result ≡ quiet_on n (tables nodes.now channels.now) }
 {
     match lent::check(n, nodes, channels) {
         Checked::Sound => QuietRead::Found(walks::is_quiet(n, nodes, channels)),
@@ -58,7 +59,7 @@ pub fn is_quiet(n: u32, nodes: &[u32], channels: &[u32]) -> QuietRead
 
 // The lowest members of all groups as a set, one for each group.
 pub fn heads(n: u32, nodes: &[u32], channels: &[u32]) -> HeadsRead
-    ensures { said_heads result ≡ heads_on n (at_entry nodes channels) }
+    ensures { said_heads result ≡ heads_on n (tables nodes.now channels.now) }
 {
     match lent::check(n, nodes, channels) {
         Checked::Sound => HeadsRead::Found(walks::heads(n, nodes, channels)),
@@ -68,8 +69,8 @@ pub fn heads(n: u32, nodes: &[u32], channels: &[u32]) -> HeadsRead
 
 // Tables that pass: 3, or u's group.
 fn named(n: u32, u: u32, nodes: &[u32], channels: &[u32]) -> GroupRead
-    requires { Passes n (given nodes channels) }
-    ensures { said_group result ≡ group_named n u (load n (at_entry nodes channels)) }
+    requires { Passes n (tables nodes.now channels.now) }
+    ensures { said_group result ≡ group_named n u (load n (tables nodes.now channels.now)) }
 {
     if (1 <= u) & (u <= n) {
         let members = walks::group(n, u, nodes, channels);
@@ -84,7 +85,7 @@ fn named(n: u32, u: u32, nodes: &[u32], channels: &[u32]) -> GroupRead
 
 // The group of node u, and its collectors.
 pub fn group_of(n: u32, u: u32, nodes: &[u32], channels: &[u32]) -> GroupRead
-    ensures { said_group result ≡ group_on n u (at_entry nodes channels) }
+    ensures { said_group result ≡ group_on n u (tables nodes.now channels.now) }
 {
     match lent::check(n, nodes, channels) {
         Checked::Sound => named(n, u, nodes, channels),

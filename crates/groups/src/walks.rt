@@ -5,18 +5,17 @@ ghost use Rattle.basics.specs.Functions.{every};
 ghost use Rattle.protocol.specs.Network.{Node, up_to, own};
 ghost use Rattle.protocol.specs.Quiet.{pair_quiet, quiet};
 ghost use Rattle.tables.specs.Load.{load};
-ghost use Rattle.tables.specs.Tables.{at_entry};
-ghost use Rattle.tables.specs.inner.Fit.{given};
 ghost use Rattle.groups.specs.Groups.{linked, group_of, heads_of, collectors_in};
 ghost use Rattle.groups.specs.inner.Looks.{Passes};
 ghost use Rattle.groups.specs.inner.Words.{SetWords};
+ghost use Rattle.tables.specs.Tables.{tables};
 
 use super::{looks, words};
 
 // Who is up from each node, node 1 first.
 fn fill_ups(n: u32, nodes: &[u32], channels: &[u32], ups: &mut [u16])
-    requires { Passes n (given nodes channels) × (length ups.old ≡ 16) }
-    ensures { SetWords n (up_to (load n (at_entry nodes channels))) ups.new }
+    requires { Passes n (tables nodes.now channels.now) × (length ups.old ≡ 16) }
+    ensures { SetWords n (up_to (load n (tables nodes.now channels.now))) ups.new }
 {
     let mut w = 1;
     while w <= n {
@@ -28,8 +27,8 @@ fn fill_ups(n: u32, nodes: &[u32], channels: &[u32], ups: &mut [u16])
 }
 
 fn ups(n: u32, nodes: &[u32], channels: &[u32]) -> [u16; 16]
-    requires { Passes n (given nodes channels) }
-    ensures { SetWords n (up_to (load n (at_entry nodes channels))) result }
+    requires { Passes n (tables nodes.now channels.now) }
+    ensures { SetWords n (up_to (load n (tables nodes.now channels.now))) result }
 {
     let mut out = words::blank();
     fill_ups(n, nodes, channels, &mut out);
@@ -38,8 +37,8 @@ fn ups(n: u32, nodes: &[u32], channels: &[u32]) -> [u16; 16]
 
 // Who is linked with each node.
 fn links(n: u32, nodes: &[u32], channels: &[u32]) -> [u16; 16]
-    requires { Passes n (given nodes channels) }
-    ensures { SetWords n (linked (up_to (load n (at_entry nodes channels)))) result }
+    requires { Passes n (tables nodes.now channels.now) }
+    ensures { SetWords n (linked (up_to (load n (tables nodes.now channels.now)))) result }
 {
     let up = ups(n, nodes, channels);
     let mut near = words::blank();
@@ -49,8 +48,8 @@ fn links(n: u32, nodes: &[u32], channels: &[u32]) -> [u16; 16]
 
 // u's group.
 pub fn group(n: u32, u: u32, nodes: &[u32], channels: &[u32]) -> u16
-    requires { Passes n (given nodes channels) × Node n u }
-    ensures { result ≡ group_of n (up_to (load n (at_entry nodes channels))) u }
+    requires { Passes n (tables nodes.now channels.now) × Node n u }
+    ensures { result ≡ group_of n (up_to (load n (tables nodes.now channels.now))) u }
 {
     let near = links(n, nodes, channels);
     words::group(n, u, &near)
@@ -58,8 +57,8 @@ pub fn group(n: u32, u: u32, nodes: &[u32], channels: &[u32]) -> u16
 
 // The lowest members of all groups.
 pub fn heads(n: u32, nodes: &[u32], channels: &[u32]) -> u16
-    requires { Passes n (given nodes channels) }
-    ensures { result ≡ heads_of n (up_to (load n (at_entry nodes channels))) }
+    requires { Passes n (tables nodes.now channels.now) }
+    ensures { result ≡ heads_of n (up_to (load n (tables nodes.now channels.now))) }
 {
     let near = links(n, nodes, channels);
     words::heads(n, &near)
@@ -67,8 +66,8 @@ pub fn heads(n: u32, nodes: &[u32], channels: &[u32]) -> u16
 
 // The collectors in s.
 pub fn collectors(n: u32, s: u16, nodes: &[u32], channels: &[u32]) -> u16
-    requires { Passes n (given nodes channels) }
-    ensures { result ≡ collectors_in n (own (load n (at_entry nodes channels))) s }
+    requires { Passes n (tables nodes.now channels.now) }
+    ensures { result ≡ collectors_in n (own (load n (tables nodes.now channels.now))) s }
 {
     let mut out: u16 = 0;
     let mut w = 1;
@@ -92,8 +91,8 @@ fn same(a: bool, b: bool) -> bool
 
 // Channel u to v is empty, and up exactly when the one back is; for each v.
 fn node_quiet(n: u32, u: u32, ups: &[u16], nodes: &[u32], channels: &[u32]) -> bool
-    requires { Passes n (given nodes channels) × SetWords n (up_to (load n (given nodes channels))) ups.now × Node n u }
-    ensures { result ≡ every n (pair_quiet (load n (at_entry nodes channels)) u) }
+    requires { Passes n (tables nodes.now channels.now) × SetWords n (up_to (load n (tables nodes.now channels.now))) ups.now × Node n u }
+    ensures { result ≡ every n (pair_quiet (load n (tables nodes.now channels.now)) u) }
 {
     let i = (u - 1) as usize;
     let out = ups[i];
@@ -111,8 +110,8 @@ fn node_quiet(n: u32, u: u32, ups: &[u16], nodes: &[u32], channels: &[u32]) -> b
 }
 
 pub fn is_quiet(n: u32, nodes: &[u32], channels: &[u32]) -> bool
-    requires { Passes n (given nodes channels) }
-    ensures { result ≡ quiet n (load n (at_entry nodes channels)) }
+    requires { Passes n (tables nodes.now channels.now) }
+    ensures { result ≡ quiet n (load n (tables nodes.now channels.now)) }
 {
     let up = ups(n, nodes, channels);
     let mut ok = true;

@@ -9,7 +9,7 @@ ghost use Rattle.height.specs.inner.Parts.{and_then, is_less, is_equal};
 use super::{Height, LeaderPair, ReferenceLevel};
 
 // Less and greater have the place, 1 to 7 in the height, of the first number that differs.
-#[derive(Drop)]
+#[derive(Clone, Copy)]
 pub enum Order {
     Less(u32),
     Equal,

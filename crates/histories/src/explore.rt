@@ -1,9 +1,8 @@
 // Depth first: behind a path, all histories with so many events more. The tables hold what the path reaches, before and after.
 ghost use Rattle.std.specs.Prelude.{◌≡◌, ◌+◌, length};
-ghost use Rattle.tables.specs.Tables.{at_entry, at_exit};
-ghost use Rattle.tables.specs.inner.Fit.{given};
 ghost use Rattle.text.specs.inner.Poured.{poured};
 ghost use Rattle.histories.specs.inner.Walk.{text_from, branch_text, Exploring, Branching};
+ghost use Rattle.tables.specs.Tables.{tables};
 
 use super::Path;
 
@@ -18,10 +17,10 @@ fn branch(
     out: &mut [u8],
     at: usize,
 ) -> usize
-    requires { Branching path.n left path.events path.code c (given nodes channels) at }
+    requires { Branching path.n left path.events path.code c (tables nodes.old channels.old) at }
     ensures { (out.new ≡ poured out.old at (branch_text path.n left path.events path.code c))
         × (result ≡ at + length (branch_text path.n left path.events path.code c))
-        × (at_exit nodes channels ≡ at_entry nodes channels) }
+        × (tables nodes.new channels.new ≡ tables nodes.old channels.old) }
 {
     if !super::paths::step(path.n, c, nodes, channels) {
         return at;
@@ -47,10 +46,10 @@ pub fn explore(
     out: &mut [u8],
     at: usize,
 ) -> usize
-    requires { Exploring path.n left path.events path.code (given nodes channels) at }
+    requires { Exploring path.n left path.events path.code (tables nodes.old channels.old) at }
     ensures { (out.new ≡ poured out.old at (text_from path.n left path.events path.code))
         × (result ≡ at + length (text_from path.n left path.events path.code))
-        × (at_exit nodes channels ≡ at_entry nodes channels) }
+        × (tables nodes.new channels.new ≡ tables nodes.old channels.old) }
 {
     if left == 0 {
         return super::put::put_input(out, at, path);

@@ -1,5 +1,7 @@
 // All short histories of a small plot (document 02 [6]), as bench inputs in one text. No tables are lent.
 // Neither call requires anything: what cannot be done is refused, and nothing lent changes.
+#![tactic(auto)]
+
 ghost use Rattle.std.specs.Prelude.{◌≡◌};
 ghost use Rattle.refusal.specs.Outcome.{outcome};
 ghost use Rattle.histories.specs.ListOn.{is_plot, is_short, said_listed, list_on, list_length};
@@ -12,7 +14,7 @@ mod plot;
 mod put;
 
 // What a list answers: the bytes of its text and its histories (0), or n outside 1 to 16 (1), above 3 nodes or 5 events (19), too little room (14).
-#[derive(Drop)]
+#[derive(Clone, Copy)]
 pub enum Listed {
     Written(usize, u32),
     Refused(Refusal),
@@ -20,7 +22,7 @@ pub enum Listed {
 
 // A path: so many events from the fresh plot of n nodes on. Each is a candidate's code, 0 to 26; `code` is all of them as one number in base 27, whose last
 // digit is the last event.
-#[derive(Drop)]
+#[derive(Clone, Copy)]
 pub struct Path {
     pub n: u32,
     pub events: u32,

@@ -2,16 +2,16 @@
 ghost use Rattle.std.specs.Prelude.{◌≡◌, eqb};
 ghost use Rattle.election.specs.StepOn.{step_on};
 ghost use Rattle.tables.specs.Load.{tables_of};
-ghost use Rattle.tables.specs.Tables.{at_entry, at_exit};
-ghost use Rattle.tables.specs.inner.Fit.{given, Sized};
+ghost use Rattle.tables.specs.inner.Fit.{Sized};
 ghost use Rattle.histories.specs.inner.Walk.{event_at, reached_by};
+ghost use Rattle.tables.specs.Tables.{tables};
 
 use super::Path;
 
 // Candidate c: whether it is accepted.
 pub fn step(n: u32, c: u32, nodes: &mut [u32], channels: &mut [u32]) -> bool
-    ensures { (result ≡ eqb (step_on n (event_at c) (at_entry nodes channels)).said.why.number 0)
-        × (at_exit nodes channels ≡ (step_on n (event_at c) (at_entry nodes channels)).after) }
+    ensures { (result ≡ eqb (step_on n (event_at c) (tables nodes.old channels.old)).said.why.number 0)
+        × (tables nodes.new channels.new ≡ (step_on n (event_at c) (tables nodes.old channels.old)).after) }
 {
     let u = c / 3 % 3 + 1;
     let v = c % 3 + 1;
@@ -29,8 +29,8 @@ pub fn step(n: u32, c: u32, nodes: &mut [u32], channels: &mut [u32]) -> bool
 
 // The events of a path, from fresh tables on.
 pub fn replay(path: Path, nodes: &mut [u32], channels: &mut [u32])
-    requires { Sized path.n (given nodes channels) }
-    ensures { at_exit nodes channels ≡ tables_of path.n (reached_by path.n path.events path.code) }
+    requires { Sized path.n (tables nodes.old channels.old) }
+    ensures { tables nodes.new channels.new ≡ tables_of path.n (reached_by path.n path.events path.code) }
 {
     if path.events == 0 {
         lent::fresh(path.n, nodes, channels);

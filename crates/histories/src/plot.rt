@@ -3,8 +3,8 @@ ghost use Rattle.std.specs.Prelude.{◌≡◌, ◌+◌, ◌*◌, ◌/◌, ◌^�
 ghost use Rattle.enumeration.specs.Histories.{histories};
 ghost use Rattle.enumeration.specs.Texts.{list_text};
 ghost use Rattle.protocol.specs.Network.{fresh};
-ghost use Rattle.tables.specs.Tables.{width, cell_width};
-ghost use Rattle.tables.specs.inner.Fit.{given, Sized};
+ghost use Rattle.tables.specs.Tables.{tables, width, cell_width};
+ghost use Rattle.tables.specs.inner.Fit.{Sized};
 ghost use Rattle.text.specs.inner.Poured.{poured};
 
 use super::Path;
@@ -27,7 +27,7 @@ fn blank_channels() -> [u32; CHANNELS]
 }
 
 fn with_tables(n: u32, k: u32, nodes: &mut [u32], channels: &mut [u32], out: &mut [u8]) -> usize
-    requires { Sized n (given nodes channels) × (n ≤ 3) × (k ≤ 5) }
+    requires { Sized n (tables nodes.old channels.old) × (n ≤ 3) × (k ≤ 5) }
     ensures { (out.new ≡ poured out.old 0 (list_text n (histories n k fresh))) × (result ≡ length (list_text n (histories n k fresh))) }
 {
     lent::fresh(n, nodes, channels);

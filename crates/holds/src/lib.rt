@@ -1,5 +1,7 @@
 // The rules of a height and of a node's two sets as tests (document 01, "What a station holds"), and whether a height's times make sense.
 // These are leaves: only our crates call them, with the bounds that `requires` states.
+#![tactic(auto)]
+
 ghost use Rattle.std.specs.Prelude.{◌≡◌, ◌&&◌, ◌+◌, ◌≤◌, leb, length};
 ghost use Rattle.height.specs.Words.{height_size, height_at};
 ghost use Rattle.nodeset.specs.NodeSet.{member, within};

@@ -1,6 +1,6 @@
 -- How wide a channel's messages, a node's record and all nodes' records can be.
 -- Assumes at most 16 nodes, 8 messages and depths of 32 bits.
-use Prim.Native.Nat.{ℕ, ◌+◌, ◌*◌, ◌≤◌}
+use Prim.Native.Nat.{ℕ, ◌*◌, ◌≤◌}
 use native.Mathlib.Nat.{mul-le-mul}
 use native.Mathlib.Omega.{arith}
 use Rattle.image.specs.Widths.{height_width, message_width, node_width}

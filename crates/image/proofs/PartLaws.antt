@@ -6,7 +6,7 @@ use mathlib.Core.Bool.{Bool, true, false, cond}
 use mathlib.Core.List.{List, [], ◌∷◌, ◌++◌, append_assoc}
 use mathlib.Core.Path.{◌≡◌, refl, sym, ap, ap₂, ◌∙◌}
 use lib.Dec.{eqb}
-use lib.ListN.{length, take, drop, replicate, length-append, length-drop, replicate-append-replicate}
+use lib.ListN.{length, drop, replicate, length-append, length-drop, replicate-append-replicate}
 use lib.Seq.{drop-drop}
 use Rattle.basics.proofs.AllOf.{none, more}
 use Rattle.bits.specs.Bits.{bits}

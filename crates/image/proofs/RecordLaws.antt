@@ -11,7 +11,7 @@ use borrow.Author.Tests.{lt-ltb, le-ltb}
 use lib.ListN.{length, take, drop, get_or, set, length-take, length-set}
 use lib.Seq.{set-set, set-get_or, get_or-set_same, get_or-take}
 use lib.Pow.{pow_pos, pow_mono, high_ones}
-use Rattle.bits.specs.Bits.{bits, total, spread, gathered}
+use Rattle.bits.specs.Bits.{bits, spread, gathered}
 use Rattle.bits.specs.inner.Written.{RoomFor}
 use Rattle.bits.proofs.Fields.{Fitting, spread-gathered, gathered-spread, length-gathered, length-spread, below-spread}
 use Rattle.bits.proofs.Numbers.{Below, bits-cong, below-nil, below-cons, below-take, below-drop}

@@ -9,7 +9,7 @@ use mathlib.Core.Path.{◌≡◌, sym, ap, ap₂, ◌∙◌}
 use mathlib.Core.List.{List, [], ◌∷◌, ◌++◌, append-nil}
 use lib.ListN.{length, take, drop, get_or, set, length-set, length-append, length-drop, length-take, drop_of_length-le}
 use lib.Seq.{take_all, drop-cons, drop-drop, set_at, set-append_left, get_or-take, take-append_seam}
-use Rattle.bits.specs.Bits.{bits, number, unpacked, field, total, spread, gathered}
+use Rattle.bits.specs.Bits.{bits, number, unpacked, field, spread, gathered}
 use Rattle.bits.specs.inner.Written.{written, RoomFor}
 use Rattle.bits.proofs.Bytes.{written-written}
 use Rattle.bits.proofs.Fields.{below-spread, length-spread, length-gathered, spread-more, gathered-more}

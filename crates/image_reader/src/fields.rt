@@ -9,7 +9,7 @@ use super::Taken;
 use refusal::Refusal;
 
 // What was taken, and the place afterwards.
-#[derive(Drop)]
+#[derive(Clone, Copy)]
 pub struct TakeStep {
     pub taken: Taken,
     pub next: usize,

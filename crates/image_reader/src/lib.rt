@@ -1,5 +1,7 @@
 // A reader keeps an image and a bit place in it together (document 01, "The plot image"). Functions over it are thin:
 // each takes it apart and calls one on the slice and the number. None requires anything; a refusal changes nothing lent.
+#![tactic(auto)]
+
 ghost use Rattle.std.specs.Prelude.{◌≡◌};
 ghost use Rattle.refusal.specs.Outcome.{outcome};
 ghost use Rattle.image_reader.specs.Fields.{said_taken, take_from};
@@ -11,21 +13,21 @@ use refusal::Refusal;
 mod fields;
 mod nodes;
 
-#[derive(Drop)]
+#[derive(Clone, Copy)]
 pub struct Reader<'a> {
     pub image: &'a [u8],
     pub at: usize,
 }
 
 // A field of at most 32 bits (0), or none: wider, or past the image's end (12).
-#[derive(Drop)]
+#[derive(Clone, Copy)]
 pub enum Taken {
     Field(u32),
     Refused(Refusal),
 }
 
 // A node's clock and both sets.
-#[derive(Drop)]
+#[derive(Clone, Copy)]
 pub struct NodeRecord {
     pub clock: Time,
     pub neighbors: u16,
@@ -34,7 +36,7 @@ pub struct NodeRecord {
 
 // The record (0), or why there is none: n outside 1 to 16 or a row not of n heights (1), a record that passes the image's end (12); more by
 // the calls that check the whole image.
-#[derive(Drop)]
+#[derive(Clone, Copy)]
 pub enum NodeRead {
     Found(NodeRecord),
     Refused(Refusal),

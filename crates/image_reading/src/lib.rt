@@ -1,16 +1,18 @@
 // The reader of images: the header taken apart, all checks behind it, and the tables that the records make.
 // `decode` refuses by itself; the others are leaves, which only our crates call.
+#![tactic(auto)]
+
 ghost use Rattle.std.specs.Prelude.{◌≡◌, ◌≤◌};
 ghost use Rattle.bits.specs.Bits.{unpacked};
 ghost use Rattle.image.specs.Places.{tables_in};
 ghost use Rattle.image.specs.Widths.{header_length, depth_width};
 ghost use Rattle.lent.specs.Check.{said_check};
-ghost use Rattle.tables.specs.Tables.{at_exit};
-ghost use Rattle.tables.specs.inner.Fit.{given, Sized};
+ghost use Rattle.tables.specs.inner.Fit.{Sized};
 ghost use Rattle.image_reading.specs.Examine.{examined};
 ghost use Rattle.image_reading.specs.inner.Cells.{Walkable};
 ghost use Rattle.image_reading.specs.Header.{header_of};
 ghost use Rattle.image_reading.specs.inner.Answers.{said_header};
+ghost use Rattle.tables.specs.Tables.{tables};
 
 use image::{DEPTH_WIDTH, HEADER_END};
 use lent::Checked;
@@ -22,7 +24,7 @@ mod filling;
 mod walking;
 
 // What a header says: version, its length in bits, and how many nodes.
-#[derive(Drop)]
+#[derive(Clone, Copy)]
 pub struct Fields {
     pub version: u32,
     pub length: u32,
@@ -30,14 +32,14 @@ pub struct Fields {
 }
 
 // A header taken apart, or what refuses it: under 4 bytes (10), or a field that may not be so (11).
-#[derive(Drop)]
+#[derive(Clone, Copy)]
 pub enum Header {
     Good(Fields),
     Refused(Refusal),
 }
 
 // Where a walk is, or why it stopped: at a pair (a count above 8, 2), or at the end of the image (12).
-#[derive(Drop)]
+#[derive(Clone, Copy)]
 pub enum Walk {
     At(usize),
     Refused(Refusal),
@@ -45,7 +47,7 @@ pub enum Walk {
 
 // What the search of a row's pairs found: whether one is at fault; the first such, else the first untimely pair, 0 0 where there is none; and the place
 // behind the row's channels.
-#[derive(Drop)]
+#[derive(Clone, Copy)]
 pub struct RowFound {
     pub faulty: bool,
     pub at: Late,
@@ -87,8 +89,8 @@ pub fn examine(image: &[u8], n: u32) -> Checked
 
 // The tables of an image's records.
 pub fn read_tables(image: &[u8], n: u32, nodes: &mut [u32], channels: &mut [u32])
-    requires { Sized n (given nodes channels) × Walkable header_length depth_width n (unpacked image.now) }
-    ensures { at_exit nodes channels ≡ tables_in header_length depth_width n (unpacked image.now) }
+    requires { Sized n (tables nodes.old channels.old) × Walkable header_length depth_width n (unpacked image.now) }
+    ensures { tables nodes.new channels.new ≡ tables_in header_length depth_width n (unpacked image.now) }
 {
     filling::read_rows(image, HEADER_END, DEPTH_WIDTH, n, nodes);
     filling::read_cells(image, HEADER_END, DEPTH_WIDTH, n, channels);

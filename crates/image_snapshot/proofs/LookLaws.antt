@@ -23,7 +23,7 @@ use Rattle.image_reading.specs.inner.Cells.{Walkable}
 use Rattle.image_reading.specs.Header.{header_of}
 use Rattle.image_reading.specs.inner.Answers.{said_header}
 use Rattle.image_reading.specs.declared.Fields.{Fields}
-use Rattle.image_reading.specs.declared.Header.TheVariants.{Good, Refused}
+use Rattle.image_reading.specs.declared.Header.TheVariants.{Good}
 use Rattle.image_reading.specs.declared.Header.{Header}
 use Rattle.lent.specs.Check.{said_check}
 use Rattle.lent.specs.declared.Checked.{Checked}

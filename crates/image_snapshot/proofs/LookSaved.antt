@@ -22,7 +22,6 @@ use Rattle.protocol.specs.Holds.{sound}
 use Rattle.protocol.specs.Network.{Node, Network, restrict}
 use Rattle.protocol.specs.Times.{timely}
 use Rattle.refusal.specs.Outcome.{accepted, Answered, outcome}
-use Rattle.refusal.specs.Refusal.{why}
 use Rattle.refusal.specs.declared.Why.{Why}
 use Rattle.tables.specs.Load.{load, tables_of}
 use Rattle.tables.specs.Records.{records_of, row_words}

@@ -3,11 +3,11 @@
 use Prim.Native.Nat.{ℕ, suc, ◌+◌, ◌-◌, ◌*◌, ◌<◌}
 use native.Mathlib.Omega.{arith}
 use mathlib.Core.Path.{◌≡◌, sym, ◌∙◌}
-use mathlib.Core.List.{List, [], map}
+use mathlib.Core.List.{[], map}
 use lib.ListN.{length, get_or, length-map}
 use Rattle.bits.specs.Bits.{unpacked}
 use Rattle.height.specs.Words.{height_size, height_words}
-use Rattle.image.specs.Image.{image_of, image}
+use Rattle.image.specs.Image.{image}
 use Rattle.image.specs.Places.{field_in, node_place, channel_place}
 use Rattle.image.specs.Widths.{field_place, header_length, depth_width, node_width}
 use Rattle.image.proofs.FieldPlaces.{field_width, height-96, message-128}

@@ -1,16 +1,18 @@
 // Images of networks: save, restore, one node at a saved place, and how many nodes an image is of.
 // Every call answers or refuses; a refusal changes nothing lent.
+#![tactic(auto)]
+
 ghost use Rattle.std.specs.Prelude.{◌≡◌};
 ghost use Rattle.image_reader.specs.Record.{said_node};
 ghost use Rattle.image_reading.specs.inner.Answers.{said_header};
 ghost use Rattle.lent.specs.Check.{said_check};
 ghost use Rattle.refusal.specs.Outcome.{outcome};
 ghost use Rattle.refusal.specs.Refusal.{why_of};
-ghost use Rattle.tables.specs.Tables.{at_entry, at_exit};
 ghost use Rattle.image_snapshot.specs.Count.{said_count, count_on};
 ghost use Rattle.image_snapshot.specs.ReadNode.{read_node_on};
 ghost use Rattle.image_snapshot.specs.Restore.{restore_on};
 ghost use Rattle.image_snapshot.specs.Save.{said_save, save_on};
+ghost use Rattle.tables.specs.Tables.{tables};
 
 use image_reading::Header;
 use lent::Checked;
@@ -21,14 +23,14 @@ mod restoring;
 mod saving;
 
 // What a save answers: the image's length in bytes (0), or sizes (1), the pair at fault (2) or untimely (18), too little room (14).
-#[derive(Drop)]
+#[derive(Clone, Copy)]
 pub enum Saved {
     Written(usize),
     Refused(Refusal),
 }
 
 // How many nodes a header names, or why not: under 4 bytes (10), or no header of ours (11).
-#[derive(Drop)]
+#[derive(Clone, Copy)]
 pub enum CountRead {
     Found(u32),
     Refused(Refusal),
@@ -39,7 +41,7 @@ pub use image_reader::{NodeRead, NodeRecord};
 
 // The image of the network that the tables hold goes to the front of `out`.
 pub fn save(n: u32, nodes: &[u32], channels: &[u32], out: &mut [u8]) -> Saved
-    ensures { outcome (said_save result) out.new ≡ save_on n (at_entry nodes channels) out.old }
+    ensures { outcome (said_save result) out.new ≡ save_on n (tables nodes.now channels.now) out.old }
 {
     match lent::check(n, nodes, channels) {
         Checked::Sound => saving::checked(n, nodes, channels, out),
@@ -70,7 +72,7 @@ fn turned_away(h: Header) -> Refusal
 
 // The network of an image goes into the tables: 10, 11, 1, 2, 12, 18, or done (0).
 pub fn restore(image: &[u8], nodes: &mut [u32], channels: &mut [u32]) -> Checked
-    ensures { outcome (said_check result) (at_exit nodes channels) ≡ restore_on image.now (at_entry nodes channels) }
+    ensures { outcome (said_check result) (tables nodes.new channels.new) ≡ restore_on image.now (tables nodes.old channels.old) }
 {
     let h = image_reading::decode(image);
     let Header::Good(fields) = h else {

@@ -3,8 +3,8 @@ ghost use Rattle.std.specs.Prelude.{◌≡◌, ◌≤◌};
 ghost use Rattle.bits.specs.Bits.{unpacked};
 ghost use Rattle.lent.specs.Check.{said_check};
 ghost use Rattle.refusal.specs.Outcome.{outcome};
-ghost use Rattle.tables.specs.Tables.{at_entry, at_exit};
 ghost use Rattle.image_snapshot.specs.Restore.{restore_of};
+ghost use Rattle.tables.specs.Tables.{tables};
 
 use lent::Checked;
 use refusal::Refusal;
@@ -12,7 +12,7 @@ use refusal::Refusal;
 // An image of n nodes: 1, then the checks, and only then the tables are written.
 pub fn headed(image: &[u8], n: u32, nodes: &mut [u32], channels: &mut [u32]) -> Checked
     requires { (1 ≤ n) × (n ≤ 16) }
-    ensures { outcome (said_check result) (at_exit nodes channels) ≡ restore_of n (unpacked image.now) (at_entry nodes channels) }
+    ensures { outcome (said_check result) (tables nodes.new channels.new) ≡ restore_of n (unpacked image.now) (tables nodes.old channels.old) }
 {
     if !lent::is_sized(n, nodes, channels) {
         return Checked::Refused(Refusal::Sizes);

@@ -4,17 +4,16 @@ ghost use Rattle.image.specs.Image.{image};
 ghost use Rattle.lent.specs.Check.{check_on};
 ghost use Rattle.refusal.specs.Outcome.{outcome, put_front};
 ghost use Rattle.tables.specs.Load.{load};
-ghost use Rattle.tables.specs.Tables.{at_entry};
-ghost use Rattle.tables.specs.inner.Fit.{given};
 ghost use Rattle.image_snapshot.specs.Save.{said_save};
+ghost use Rattle.tables.specs.Tables.{tables};
 
 use super::Saved;
 use refusal::Refusal;
 
 // 14, or the image goes to the front of the bytes.
 pub fn checked(n: u32, nodes: &[u32], channels: &[u32], out: &mut [u8]) -> Saved
-    requires { (check_on n (given nodes channels)).number ≡ 0 }
-    ensures { outcome (said_save result) out.new ≡ put_front (image n (load n (at_entry nodes channels))) out.old }
+    requires { (check_on n (tables nodes.now channels.now)).number ≡ 0 }
+    ensures { outcome (said_save result) out.new ≡ put_front (image n (load n (tables nodes.now channels.now))) out.old }
 {
     let size = image_writing::image_length(n, nodes, channels);
     if out.len() < size {

@@ -1,10 +1,12 @@
 // The writer of images: the length of an image, and its bytes.
 // These are leaves: only our crates call them, with the bounds that `requires` states.
+#![tactic(auto)]
+
 ghost use Rattle.std.specs.Prelude.{◌++◌, ◌≡◌, ◌+◌, ◌≤◌, length, drop};
 ghost use Rattle.image.specs.Image.{image};
 ghost use Rattle.tables.specs.Load.{load};
-ghost use Rattle.tables.specs.Tables.{at_entry};
-ghost use Rattle.tables.specs.inner.Fit.{given, TablesFit};
+ghost use Rattle.tables.specs.inner.Fit.{TablesFit};
+ghost use Rattle.tables.specs.Tables.{tables};
 
 use image::{DEPTH_WIDTH, HEADER_END, widths};
 
@@ -13,8 +15,8 @@ mod nodes;
 
 // How many bytes the image of tables takes.
 pub fn image_length(n: u32, nodes: &[u32], channels: &[u32]) -> usize
-    requires { TablesFit n (given nodes channels) }
-    ensures { result ≡ length (image n (load n (at_entry nodes channels))) }
+    requires { TablesFit n (tables nodes.now channels.now) }
+    ensures { result ≡ length (image n (load n (tables nodes.now channels.now))) }
 {
     let k = n as usize;
     let end = HEADER_END
@@ -25,9 +27,9 @@ pub fn image_length(n: u32, nodes: &[u32], channels: &[u32]) -> usize
 
 // The image of tables goes to the front of the bytes; those behind it stay.
 pub fn write(n: u32, nodes: &[u32], channels: &[u32], out: &mut [u8])
-    requires { TablesFit n (given nodes channels) × (length (image n (load n (given nodes channels))) ≤ length out.old) }
-    ensures { out.new ≡ image n (load n (at_entry nodes channels))
-        ++ drop (length (image n (load n (at_entry nodes channels)))) out.old }
+    requires { TablesFit n (tables nodes.now channels.now) × (length (image n (load n (tables nodes.now channels.now))) ≤ length out.old) }
+    ensures { out.new ≡ image n (load n (tables nodes.now channels.now))
+        ++ drop (length (image n (load n (tables nodes.now channels.now)))) out.old }
 {
     let k = n as usize;
     nodes::put_header(out, n);

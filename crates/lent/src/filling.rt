@@ -3,8 +3,8 @@ ghost use Rattle.std.specs.Prelude.{◌≡◌};
 ghost use Rattle.height.specs.inner.Stored.{Negated};
 ghost use Rattle.protocol.specs.Network.{fresh, fresh_height};
 ghost use Rattle.tables.specs.Load.{tables_of};
-ghost use Rattle.tables.specs.Tables.{at_exit};
-ghost use Rattle.tables.specs.inner.Fit.{given, Sized};
+ghost use Rattle.tables.specs.inner.Fit.{Sized};
+ghost use Rattle.tables.specs.Tables.{tables};
 
 use height::{Height, Time};
 
@@ -17,8 +17,8 @@ fn fresh_height(k: u32) -> Height
 
 // Every word zero but each node's own height.
 pub fn fill(n: u32, nodes: &mut [u32], channels: &mut [u32])
-    requires { Sized n (given nodes channels) }
-    ensures { at_exit nodes channels ≡ tables_of n fresh }
+    requires { Sized n (tables nodes.old channels.old) }
+    ensures { tables nodes.new channels.new ≡ tables_of n fresh }
 {
     tables::cells::fill_zero(nodes);
     tables::cells::fill_zero(channels);

@@ -1,9 +1,11 @@
 // The lent tables' one door: `check` answers refusals 1, 2 and 18 for every routine that reads tables, `is_sized` 1 for those that fill them.
 // No function requires anything: what cannot be done is refused, and nothing lent changes.
+#![tactic(auto)]
+
 ghost use Rattle.std.specs.Prelude.{cond, ◌≡◌, eqb};
 ghost use Rattle.refusal.specs.Outcome.{outcome};
 ghost use Rattle.refusal.specs.Refusal.{why};
-ghost use Rattle.tables.specs.Tables.{at_entry, at_exit, sized};
+ghost use Rattle.tables.specs.Tables.{tables, sized};
 ghost use Rattle.lent.specs.Check.{said_check, check_on};
 ghost use Rattle.lent.specs.Fresh.{fresh_on};
 
@@ -14,7 +16,7 @@ mod filling;
 mod search;
 
 // What a check answers: nothing at fault (0), or why not: sizes (1), the first pair at fault (2), the first untimely pair (18).
-#[derive(Drop)]
+#[derive(Clone, Copy)]
 pub enum Checked {
     Sound,
     Refused(Refusal),
@@ -32,7 +34,7 @@ pub fn unless_late(late: Late) -> Checked
 
 // n from 1 to 16, and the tables of the lengths for n.
 pub fn is_sized(n: u32, nodes: &[u32], channels: &[u32]) -> bool
-    ensures { result ≡ sized n (at_entry nodes channels) }
+    ensures { result ≡ sized n (tables nodes.now channels.now) }
 {
     if n <= 16 {
         let k = n as usize;
@@ -45,7 +47,7 @@ pub fn is_sized(n: u32, nodes: &[u32], channels: &[u32]) -> bool
 
 // Refusals 1, 2 and 18, for any tables whatever.
 pub fn check(n: u32, nodes: &[u32], channels: &[u32]) -> Checked
-    ensures { said_check result ≡ check_on n (at_entry nodes channels) }
+    ensures { said_check result ≡ check_on n (tables nodes.now channels.now) }
 {
     if is_sized(n, nodes, channels) {
         return search::contents(n, nodes, channels);
@@ -55,7 +57,7 @@ pub fn check(n: u32, nodes: &[u32], channels: &[u32]) -> Checked
 
 // The fresh network of n nodes.
 pub fn fresh(n: u32, nodes: &mut [u32], channels: &mut [u32]) -> Checked
-    ensures { outcome (said_check result) (at_exit nodes channels) ≡ fresh_on n (at_entry nodes channels) }
+    ensures { outcome (said_check result) (tables nodes.new channels.new) ≡ fresh_on n (tables nodes.old channels.old) }
 {
     if is_sized(n, nodes, channels) {
         filling::fill(n, nodes, channels);

@@ -3,10 +3,10 @@ ghost use Rattle.std.specs.Prelude.{cond, ◌≡◌, eqb};
 ghost use Rattle.pairs.specs.inner.Findings.{finding};
 ghost use Rattle.protocol.specs.Network.{Node};
 ghost use Rattle.refusal.specs.Refusal.{why};
-ghost use Rattle.tables.specs.Tables.{at_entry};
-ghost use Rattle.tables.specs.inner.Fit.{given, Sized};
+ghost use Rattle.tables.specs.inner.Fit.{Sized};
 ghost use Rattle.lent.specs.Check.{said_check, pair_at, timely_at, contents_on};
 ghost use Rattle.lent.specs.inner.Kept.{said_late};
+ghost use Rattle.tables.specs.Tables.{tables};
 
 use super::Checked;
 use pairs::{Finding, Late};
@@ -14,8 +14,8 @@ use refusal::Refusal;
 
 // The pair u, v. As `pairs::read_pair`, but with all of its cell looked at.
 fn pair(n: u32, u: u32, v: u32, nodes: &[u32], channels: &[u32]) -> Finding
-    requires { Sized n (given nodes channels) × Node n u × Node n v }
-    ensures { result ≡ finding (pair_at n (at_entry nodes channels) u v) (timely_at n (at_entry nodes channels) u v) }
+    requires { Sized n (tables nodes.now channels.now) × Node n u × Node n v }
+    ensures { result ≡ finding (pair_at n (tables nodes.now channels.now) u v) (timely_at n (tables nodes.now channels.now) u v) }
 {
     let row = tables::rows::node(n, u, nodes);
     let cell = tables::rows::channel(n, u, v, channels);
@@ -37,8 +37,8 @@ fn answer(u: u32, v: u32, late: Late) -> Checked
 
 // Pair by pair, by u and then by v. A fault ends both walks at once; the first untimely pair is kept, and the walk goes on.
 pub fn contents(n: u32, nodes: &[u32], channels: &[u32]) -> Checked
-    requires { Sized n (given nodes channels) }
-    ensures { said_check result ≡ contents_on n (at_entry nodes channels) }
+    requires { Sized n (tables nodes.now channels.now) }
+    ensures { said_check result ≡ contents_on n (tables nodes.now channels.now) }
 {
     let mut at = 0;
     let mut with = 0;

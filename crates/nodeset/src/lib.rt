@@ -1,5 +1,7 @@
 // Sets of nodes 1 to 16 in a u16 (document 01: N and F), node k at bit k - 1, the lowest being bit 0.
 // Every function takes any number; a node number outside 1 to 16 is in no set.
+#![tactic(auto)]
+
 ghost use Rattle.std.specs.Prelude.{◌≡◌};
 ghost use Rattle.std.specs.Int.Count.{ones};
 ghost use Rattle.nodeset.specs.NodeSet.{member, set_of, within, same_node, apart, lowest};

@@ -1,5 +1,7 @@
 // What the lent tables hold for a pair u, v: whether its words break a rule, and whether its times make sense, found in one look.
 // These are leaves: only our crates call them, with the bounds that `requires` states.
+#![tactic(auto)]
+
 ghost use Rattle.std.specs.Prelude.{◌≡◌, true, ◌||◌, ◌+◌, ◌≤◌, length};
 ghost use Rattle.basics.specs.Functions.{all};
 ghost use Rattle.height.specs.Words.{height_size, height_at};
@@ -14,7 +16,7 @@ ghost use Rattle.pairs.specs.Pair.{own_sound, view_sound, channel_sound, pair_so
 ghost use Rattle.pairs.specs.inner.Findings.{finding, joined, is_faulty, is_timely, kept_or, passes};
 ghost use Rattle.pairs.specs.inner.ReadCell.{ReadCell};
 
-#[derive(Drop)]
+#[derive(Clone, Copy)]
 pub enum Finding {
     Good,
     Untimely, // no rule is broken, and a time is above what it may be (18)
@@ -58,7 +60,7 @@ pub fn is_timely(f: Finding) -> bool
 }
 
 // The first untimely pair of a search; 0 0 while there is none.
-#[derive(Drop)]
+#[derive(Clone, Copy)]
 pub struct Late {
     pub u: u32,
     pub v: u32,

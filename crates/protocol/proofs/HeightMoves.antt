@@ -1,6 +1,6 @@
 -- In a sound network whose times make sense, an accepted event leaves its node's height as it was exactly by rules U, Q, I and R:
 -- rules E, S, F, P and A always change it.
-use Prim.Native.Nat.{ℕ, suc, max, ◌≤◌}
+use Prim.Native.Nat.{ℕ, suc, max}
 use native.Mathlib.Omega.{arith}
 use mathlib.Core.Bool.{Bool, true, false}
 use mathlib.Core.List.{List, [], ◌∷◌}
@@ -22,7 +22,7 @@ use Rattle.protocol.specs.Step.{Event, up, down, receive, home, peer, height_aft
 use Rattle.protocol.specs.Step.{local_down, local_ignored, local_taken, local_receipt, local}
 use Rattle.protocol.specs.Times.{timely}
 use Rattle.protocol.specs.declared.Rule.TheVariants.{ChannelUp, ElectSelf, StartNewRefLevel, NoChange, Ignored}
-use Rattle.protocol.specs.declared.Rule.TheVariants.{ReflectRefLevel, PropagateLargestRefLevel, AdoptLpIfPriority, Reply}
+use Rattle.protocol.specs.declared.Rule.TheVariants.{AdoptLpIfPriority, Reply}
 use Rattle.protocol.specs.declared.Rule.{Rule}
 use Rattle.protocol.proofs.Accepted.{Accepted, accepts-accepted, home-node, peer-node}
 use Rattle.protocol.proofs.RuleCases.{Kept, Verdict, is_a, is_r, is_q, is_f, is_e, is_s, is_p, verdict, down_cases}

@@ -4,7 +4,6 @@ use native.Mathlib.Omega.{arith}
 use mathlib.Core.Bool.{Bool, true, false}
 use mathlib.Core.List.{List, [], ◌∷◌}
 use mathlib.Core.Path.{◌≡◌, refl, sym, ap, subst}
-use lib.Dec.{eqb}
 use borrow.Author.Tests.{eq-eqb}
 use Rattle.basics.specs.Functions.{update}
 use Rattle.basics.proofs.AllOf.{none, all_head}
@@ -21,7 +20,7 @@ use Rattle.protocol.specs.declared.Rule.TheVariants.{Ignored, ChannelUp}
 use Rattle.protocol.specs.declared.Rule.{Rule}
 use Rattle.protocol.proofs.Accepted.{Accepted}
 use Rattle.protocol.proofs.Invariant.{PostedBy, side_of, Inv, news, LinkAfter, same-all, same-forming, same-updated}
-use Rattle.protocol.proofs.Kept.{informed-v, down-silent, Changed, seen, mine, self_n, self_f, carried_keeps}
+use Rattle.protocol.proofs.Kept.{informed-v, down-silent, Changed, mine, self_n, carried_keeps}
 use Rattle.protocol.proofs.LinkLaws.{Half, Link, raised, raise, dropped, drop, drained, ignore, heard, hear}
 use Rattle.protocol.proofs.RuleCases.{verdict, to_one, to_none, Kept, Answered, kept-still, answered, kept-down}
 use Rattle.protocol.proofs.RuleLaws.{by_cases, not-sink-by-leader, later}

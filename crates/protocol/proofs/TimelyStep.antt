@@ -1,7 +1,7 @@
 -- Every sound network whose times make sense keeps them so: an event, accepted or refused, leaves one that passes the test again.
 -- Assumes these tests of the network before the event (`sound`, `restrict`, `timely`) and nothing else: it need not be grown from the fresh one.
 use Prim.Native.Nat.{ℕ}
-use mathlib.Core.Bool.{true, false, ◌&&◌}
+use mathlib.Core.Bool.{true, ◌&&◌}
 use mathlib.Core.List.{List, [], ◌∷◌}
 use mathlib.Core.Logic.{inl, inr}
 use mathlib.Core.Path.{◌≡◌, refl}

@@ -84,8 +84,8 @@ abbrev pub a : List Event
 a = up 1 2 ∷ up 2 1 ∷ receive 1 2 ∷ []
 
 -- e. n = 3, F empty: node 2 has clock 9 and N = {1, 3}, node 3 clock 6 and N = {2}; node 1 leads
-abbrev pub three_in_aRow : Network
-three_in_aRow =
+abbrev pub three_in_a_row : Network
+three_in_a_row =
     with_node 1 5 (2 ∷ []) [] (h 0 0 0 (pos 0) (pos 0) 1 1 ∷ h 0 0 0 (pos 1) (pos 0) 1 2 ∷ [])
     (with_node 2 9 (1 ∷ 3 ∷ []) [] (h 0 0 0 (pos 0) (pos 0) 1 1 ∷ h 0 0 0 (pos 1) (pos 0) 1 2 ∷ h 0 0 0 (pos 2) (pos 0) 1 3 ∷ [])
     (with_node 3 6 (2 ∷ []) [] (h 0 0 0 (pos 1) (pos 0) 1 2 ∷ h 0 0 0 (pos 2) (pos 0) 1 3 ∷ []) fresh))
@@ -134,28 +134,28 @@ cases =
     -- e: D 2 1: (10,2,0,0; 0,1; 2), S
     ∷ record {
       nodes = 3;
-      start = three_in_aRow;
+      start = three_in_a_row;
       events = down 2 1 ∷ [];
       expected = expect (83 ∷ []) (4 ∷ []) (held 2 10 (h 10 2 0 (pos 0) (pos 0) 1 2) ∷ []) false;
     }
     -- f: node 3 receives it with stamp 10: clock 11, (10,2,1,0; 0,1; 3), F
     ∷ record {
       nodes = 3;
-      start = three_in_aRow;
+      start = three_in_a_row;
       events = down 2 1 ∷ receive 2 3 ∷ [];
       expected = expect (83 ∷ 70 ∷ []) (4 ∷ 2 ∷ []) (held 3 11 (h 10 2 1 (pos 0) (pos 0) 1 3) ∷ []) false;
     }
     -- g: node 2 receives that: clock 12, (0,0,0,0; −12,2; 2), E
     ∷ record {
       nodes = 3;
-      start = three_in_aRow;
+      start = three_in_a_row;
       events = down 2 1 ∷ receive 2 3 ∷ receive 3 2 ∷ [];
       expected = expect (83 ∷ 70 ∷ 69 ∷ []) (4 ∷ 2 ∷ 4 ∷ []) (held 2 12 (h 0 0 0 (pos 0) (negsuc 11) 2 2) ∷ []) false;
     }
     -- h: node 3 receives that: (0,0,0,1; −12,2; 3), A
     ∷ record {
       nodes = 3;
-      start = three_in_aRow;
+      start = three_in_a_row;
       events = down 2 1 ∷ receive 2 3 ∷ receive 3 2 ∷ receive 2 3 ∷ [];
       expected = expect (83 ∷ 70 ∷ 69 ∷ 65 ∷ []) (4 ∷ 2 ∷ 4 ∷ 2 ∷ []) (held 3 13 (h 0 0 0 (pos 1) (negsuc 11) 2 3) ∷ []) false;
     }

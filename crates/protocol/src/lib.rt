@@ -1,10 +1,12 @@
 // What an event answers: the rule carried out and the set sent to, or one refusal
 // (document 01, "The three events" and "Returned numbers"). The meaning of the step is in specs/.
+#![tactic(auto)]
+
 use height::ReferenceLevel;
 use refusal::Refusal;
 
 // What an accepted event did. The names are those of source 001's actions and subroutines; the letters are document 01's.
-#[derive(Drop)]
+#[derive(Clone, Copy)]
 pub enum Rule {
     ChannelUp, // U
     ElectSelf, // E
@@ -17,7 +19,7 @@ pub enum Rule {
     Reply, // R
 }
 
-#[derive(Drop)]
+#[derive(Clone, Copy)]
 pub enum Answer {
     // The rule, and the set of nodes sent to.
     Done(Rule, u16),

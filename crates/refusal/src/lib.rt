@@ -1,9 +1,11 @@
 // Why a call is refused, and the number that says so (document 01, "Returned numbers"). Every call of every crate answers its own value or
 // one of these reasons; a new number of the papers is a new line here and in specs/Refusal.antt.
+#![tactic(auto)]
+
 ghost use Rattle.std.specs.Prelude.{◌≡◌};
 ghost use Rattle.refusal.specs.Refusal.{why_of};
 
-#[derive(Drop)]
+#[derive(Clone, Copy)]
 pub enum Refusal {
     Sizes, // 1
     Fault(u32, u32), // 2, with the pair of the first fault
@@ -27,7 +29,7 @@ pub enum Refusal {
 }
 
 // The returned number; for 2 and 18 the pair at fault, else 0 and 0.
-#[derive(Drop)]
+#[derive(Clone, Copy)]
 pub struct Why {
     pub number: u32,
     pub u: u32,

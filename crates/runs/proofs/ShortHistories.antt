@@ -1,5 +1,5 @@
 -- Each history of the lists of document 02, [6] on the bench: its events are read back from its lines, and its text is listed with the code 0 on every event line.
-use Prim.Native.Nat.{ℕ, suc, ◌+◌, ◌≤◌}
+use Prim.Native.Nat.{ℕ, suc, ◌≤◌}
 use native.Mathlib.Omega.{arith}
 use mathlib.Core.Bool.{true}
 use mathlib.Core.List.{List, ◌∷◌, ◌++◌, map, Memᴰ}

@@ -35,7 +35,7 @@ use Rattle.refusal.specs.Refusal.{why}
 use Rattle.tables.specs.Load.{load, tables_of}
 use Rattle.tables.specs.Tables.{Tables}
 use Rattle.tables.proofs.Back.{storable, load-back}
-use Rattle.runs.specs.OnTables.{writing, on_tables, then, after, Allowed}
+use Rattle.runs.specs.OnTables.{writing, on_tables, then, Allowed}
 use Rattle.runs.specs.inner.ByMeaning.{save_meant, restore_meant, by_meaning}
 use Rattle.runs.proofs.ImageBack.{ImageOf, writes, reads, kept, restore-of, SaneRun}
 use Rattle.runs.proofs.Lists.{fair-head, fair-tail}

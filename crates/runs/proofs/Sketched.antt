@@ -1,24 +1,21 @@
 -- A plot read from a sketch is what a list of calls from `fresh` leaves, the ups that the sketch stands for. So demand 3 holds of it, and after
 -- every allowed list of calls that begins with these ups: whoever goes on from the plot read goes on in such a list.
-use Prim.Native.Nat.{ℕ, ◌≤◌}
+use Prim.Native.Nat.{ℕ}
 use native.Mathlib.Omega.{arith}
 use mathlib.Core.Bool.{true}
 use mathlib.Core.List.{List, [], ◌∷◌, ◌++◌, map}
 use mathlib.Core.Path.{◌≡◌, refl, sym, ap, ◌∙◌}
 use Rattle.basics.specs.Functions.{after_all, all}
-use Rattle.calls.specs.History.{grown}
 use Rattle.calls.specs.Run.{Call, event, is_plain, start_of_run}
 use Rattle.dot.specs.declared.Edge.{Edge}
 use Rattle.dot.proofs.Exactly.{IsSketch}
-use Rattle.drawing.specs.Links.{links_hold, ups_of}
+use Rattle.drawing.specs.Links.{ups_of}
 use Rattle.drawing.specs.Read.{read_on}
-use Rattle.drawing.proofs.Grown.{FromSketch, from-sketch, Reading, no_sketch, misfit, bad_link, plot, read-cases}
-use Rattle.election.specs.RunOn.{EventCall, tables_left}
-use Rattle.protocol.specs.Network.{fresh}
+use Rattle.drawing.proofs.Grown.{from-sketch, Reading, no_sketch, misfit, bad_link, plot, read-cases}
+use Rattle.election.specs.RunOn.{tables_left}
 use Rattle.protocol.specs.Step.{Event}
 use Rattle.refusal.specs.Outcome.{Outcome}
 use Rattle.refusal.specs.declared.Why.{Why}
-use Rattle.tables.specs.Load.{tables_of}
 use Rattle.tables.specs.Tables.{Tables}
 use Rattle.runs.specs.OnTables.{tables_after, tables_after_all, on_tables, fresh_tables, Allowed}
 use Rattle.runs.proofs.Demand3.{tables_at, Demand3, demand-3}

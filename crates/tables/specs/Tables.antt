@@ -1,8 +1,6 @@
 -- The two lent tables: n rows, a node each, and n times n cells, a channel each.
 -- The cells from a node to itself are unused.
 use Rattle.std.specs.Prelude.{ℕ, ◌+◌, ◌-◌, ◌*◌, Bool, ◌&&◌, List, eqb, leb, length}
-use Rattle.std.specs.Borrow.{Bor}
-use denote.Triple.Both.{Both}
 use Rattle.height.specs.Words.{height_size}
 use Rattle.protocol.specs.Network.{capacity}
 use Rattle.tables.specs.Rows.{row_at}
@@ -13,13 +11,6 @@ pub record Tables : Type 0 where
 
 abbrev pub tables : List ℕ → List ℕ → Tables
 tables ns cs = record { nodes = ns; channels = cs }
-
--- lent tables as they were at entry, as they are left
-abbrev pub at_entry : {E F : Type 0} → Both (Bor (List ℕ)) E → Both (Bor (List ℕ)) F → Tables
-at_entry nodes channels = tables nodes.entry.now channels.entry.now
-
-abbrev pub at_exit : {E F : Type 0} → Both E (Bor (List ℕ)) → Both F (Bor (List ℕ)) → Tables
-at_exit nodes channels = tables nodes.exit.now channels.exit.now
 
 -- words of a row before its heights: clock, linked set, forming set
 abbrev pub row_head : ℕ

@@ -1,5 +1,7 @@
 // Text in ASCII goes into lent bytes from an offset on, as far as they reach; each function answers the offset behind it.
 // So the same code counts how long a text is (no bytes lent) and writes it.
+#![tactic(auto)]
+
 ghost use Rattle.std.specs.Prelude.{[], ◌∷◌, ◌++◌, ◌≡◌, ◌+◌, ◌^◌, ◌≤◌, ◌<◌, length};
 ghost use Rattle.text.specs.Text.{decimal};
 ghost use Rattle.text.specs.inner.Poured.{poured};

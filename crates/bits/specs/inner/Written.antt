@@ -1,5 +1,5 @@
 -- What is left where bits or fields are put: for the contracts of this crate's functions and of those that write records with them.
-use Rattle.std.specs.Prelude.{ℕ, zero, suc, ◌+◌, ◌*◌, ◌^◌, ◌≤◌, ◌<◌, List, [], ◌∷◌, ◌++◌, length, take, drop, get_or}
+use Rattle.std.specs.Prelude.{ℕ, zero, suc, ◌+◌, ◌*◌, ◌^◌, ◌≤◌, ◌<◌, List, [], ◌++◌, length, take, drop, get_or}
 use Rattle.bits.specs.Bits.{bits, unpacked, packed, total}
 
 -- the list with bs written over it from a place on

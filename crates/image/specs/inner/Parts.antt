@@ -1,6 +1,6 @@
 -- A row's and a cell's words as an image's bits, and back: what the functions of this crate put and get.
 -- Rows and cells of a network's tables have the bits of its records (proofs/PartLaws.antt).
-use Rattle.std.specs.Prelude.{ℕ, ◌+◌, ◌-◌, ◌*◌, ◌^◌, ◌≤◌, ◌<◌, List, ◌∷◌, ◌++◌, ◌≡◌, length, take, drop}
+use Rattle.std.specs.Prelude.{ℕ, ◌+◌, ◌-◌, ◌*◌, ◌^◌, ◌≤◌, ◌<◌, List, ◌∷◌, ◌++◌, ◌≡◌, length, drop}
 use Rattle.bits.specs.Bits.{bits}
 use Rattle.height.specs.Words.{height_size}
 use Rattle.tables.specs.Cell.{count}

@@ -1,16 +1,11 @@
 -- Tables whose words their network gives back (`tables_of n (load n t) ≡ t`): what the soundness check leaves to rely on.
 -- Sets within n, at most 8 messages, unused slots zero; a depth's word is any of 32 bits.
 use Rattle.std.specs.Prelude.{ℕ, ◌+◌, ◌*◌, ◌^◌, ◌<◌, ◌≤◌, List, ◌≡◌, get_or, length}
-use Rattle.std.specs.Borrow.{Bor}
 use Rattle.protocol.specs.Network.{Node, capacity}
 use Rattle.tables.specs.Cell.{count}
 use Rattle.tables.specs.Row.{neighbors_in, forming_in}
 use Rattle.height.specs.Words.{height_size}
-use Rattle.tables.specs.Tables.{Tables, row_head, message_size, width, cell_width, node_of, channel_of, tables}
-
--- the tables as they are lent
-abbrev pub given : Bor (List ℕ) → Bor (List ℕ) → Tables
-given nodes channels = tables nodes.now channels.now
+use Rattle.tables.specs.Tables.{Tables, row_head, message_size, width, cell_width, node_of, channel_of}
 
 -- `sized` as facts
 pub record Sized (n : ℕ) (t : Tables) : Type 0 where

@@ -1,0 +1,16 @@
+-- `drawing::writing::put_arrows` meets its contract: the lines of the arrows from the nodes before a have been poured.
+use Prim.Native.Nat.{suc, ◌-◌}
+use Rattle.dot.specs.Graph.{arrow, edge_lines}
+use Rattle.tables.specs.Load.{load}
+use Rattle.tables.specs.Tables.{tables}
+use Rattle.text.specs.Text.{in_turn}
+use Rattle.text.proofs.PourLaws.{Printed}
+use Rattle.drawing.specs.Drawing.{arrow_to}
+use Rattle.drawing.proofs.writing.put_arrows.Given as goal
+
+abbrev pub invariant-loop-a : goal.invariant-loop-a
+invariant-loop-a l = Printed l.n (λ a. in_turn l.n (λ b. edge_lines arrow (arrow_to (load l.n (tables l.nodes l.channels)) a b)))
+    l.initial.out l.at l.out l.offset l.a
+
+abbrev pub decreases-loop-a : goal.decreases-loop-a
+decreases-loop-a l = suc l.n - l.a

@@ -1,0 +1,18 @@
+-- `image_reader::nodes::inside_at` meets its contract: 12, or the record.
+use Rattle.image_reader.proofs.RecordLaws.{node-short, node-inside, node-read}
+use Rattle.std.proofs.Common.{ap, not}
+use Rattle.image_reader.proofs.nodes.inside_at.Goals as goal
+
+pub returns-then-not-fits : goal.returns-then-not-fits
+returns-then-not-fits c = node-short _ _ _ _ (rw c.node-width.ensures at c.inside-fits.ensures) (ap not c.if-not-fits.true)
+
+pub record_from-record-requires : goal.record_from-record-requires
+record_from-record-requires c =
+    let fits = rw c.node-width.ensures at c.inside-fits.ensures in
+    (c.requires.0, c.requires.1, node-inside _ _ _ c.args.row.now fits (ap not c.if-not-fits.false))
+
+pub returns : goal.returns
+returns c =
+    let fits = rw c.node-width.ensures at c.inside-fits.ensures in
+    node-read _ _ _ _ fits (ap not c.if-not-fits.false)
+    c.record_from-record.ensures
