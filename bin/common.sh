@@ -55,7 +55,7 @@ input() { # FILE
     [ ! -d /dev/stdin ] || fail 1 "standard input is a directory"
 }
 
-# ---- a program on its input. A program that rt made ends with 0 whatever it could not read or write, so others read and write for it.
+# ---- a program on its input. What a program says of a read or a write that failed names no file, so others read and write for it.
 
 # Longer than what any program takes: the rest is not read.
 longest=1048576
@@ -112,18 +112,20 @@ list_histories() { # N LENGTH
 
 # ---- proving and building
 
+# `rt run` builds a program and then runs it, here on no input.
 built() { # PROGRAM
-    made check "$1" "bin/$1"
+    made run "$1" "bin/$1"
 }
 
 archived() { # LIBRARY
-    made staticlib "$1" "staticlib/lib$1.a"
+    made lib "$1" "staticlib/lib$1.a"
 }
 
-# Has target/FILE be what `rt VERB CRATE` makes of the crates as they are. What they were is told by their content: target/commands/CRATE.VERB
-# has the hashes of crates.txt, of all files of the crates that CRATE stands on, and of target/FILE. rt itself has no lock, so one run at a time.
+# Has target/FILE be what `rt VERB` in the folder of CRATE makes of the crates as they are, which it leaves in out/ there. What they were is told by
+# their content: target/commands/CRATE.VERB has the hashes of crates.txt, of all files of the crates that CRATE stands on, and of target/FILE. One
+# run at a time, so that each finds what the one before it left.
 made() { # VERB CRATE FILE
-    local crate=$2 file=$root/target/$3 kept=$root/target/commands tool before
+    local crate=$2 file=$root/target/$3 left=$root/crates/$2/out/${3##*/} kept=$root/target/commands tool before
     local log=$kept/$2.log stamp=$kept/$2.$1 crates
     mapfile -t crates < <(below "$crate" 2>/dev/null)
     [ "${#crates[@]}" -gt 0 ] || fail 1 "crates.txt lists no crate $crate"
@@ -137,36 +139,38 @@ made() { # VERB CRATE FILE
     flock -n 9 || busy waiting flock 9
     if ! current; then
         before=$(sources)
-        # rt takes a program for made while its own stamp stands
-        [ -s "$file" ] || rm -f "$root/target/stamp/$crate"
         busy proving prove "$1" || not_proved
-        [ -s "$file" ] || fail 1 "rt left no $file"
-        [ "$(said 'unchanged')" -eq "${#crates[@]}" ] || say "${#crates[@]} of ${#crates[@]} crates proved"
+        [ -s "$left" ] || fail 1 "rt left no $left"
+        # whole at once, since another command may run it
+        { mkdir -p "${file%/*}" && cp -- "$left" "$file.new" && mv -f -- "$file.new" "$file"; } 2>/dev/null || fail 1 "cannot be written: $file"
+        [ "$(said)" -eq 0 ] || say "${#crates[@]} of ${#crates[@]} crates proved"
         # what changed meanwhile is proved the next time
         [ "$(sources)" != "$before" ] || printf '%s\n' "$before" "$(sha256sum <"$file")" >"$stamp"
     fi
     exec 9>&-
 }
 
-# The crates of crates.txt that CRATE stands on, and itself. What is not listed there is of the kit.
+# The crates of crates.txt that CRATE stands on, and itself, each behind those that it stands on, as rt takes them. What is not listed there is of
+# the kit. Behind a crate's name may stand that it is a static library.
 below() { # CRATE
     awk -v crate="$1" '
         function visit(name,    on, count, i) {
             if (!(name in stands) || seen[name]++) return
-            print name
             count = split(stands[name], on, " ")
             for (i = 1; i <= count; i++) visit(on[i])
+            print name
         }
-        { sub(/#.*/, ""); colon = index($0, ":"); name = substr($0, 1, colon - 1); gsub(/[ \t]/, "", name) }
-        colon { stands[name] = substr($0, colon + 1) }
+        { sub(/#.*/, ""); colon = index($0, ":"); split(substr($0, 1, colon - 1), words, " ") }
+        colon { stands[words[1]] = substr($0, colon + 1) }
         END { visit(crate) }' "$root/crates.txt"
 }
 
-# A crate that has no folder is rt's to refuse.
+# All but what rt leaves in out/. A crate that has no folder is rt's to refuse.
 sources() {
     (
         cd "$root"
-        { find crates.txt "${crates[@]/#/crates/}" -type f -print0 2>/dev/null || true; } | LC_ALL=C sort -z | xargs -0 sha256sum
+        { find crates.txt "${crates[@]/#/crates/}" -regex 'crates/[^/]*/out' -prune -o -type f -print0 2>/dev/null || true; } | LC_ALL=C sort -z |
+            xargs -0 sha256sum
     ) | sha256sum
 }
 
@@ -175,16 +179,22 @@ current() {
 }
 
 prove() { # VERB
-    (cd "$root" && rt "$1" "$crate") >"$log" 2>&1 </dev/null
+    (cd "$root/crates/$crate" && rt "$1") >"$log" 2>&1 </dev/null
 }
 
-# How many crates rt has said to be proved, in words that start with WORD.
-said() { # WORD
-    grep -aEc "^rt: [a-z0-9_]+ proved \\($1" "$log" || true
+# How many of the crates are proved, 0 where rt had none to prove. It takes them lowest first, passes over those that it had proved before in silence,
+# and says of each other one its name and then that it is proved, and before that, on more than one processor, what it chose for it.
+said() {
+    awk -v all="${crates[*]}" '
+        BEGIN { for (count = split(all, name, " "); count > 0; count--) place[name[count]] = count }
+        /^crate [a-z0-9_]+: / { at = place[substr($2, 1, length($2) - 1)] }
+        /^rt: chose --jobs [0-9]+ for / && place[$NF] > most { most = place[$NF] - 1 }
+        /^logic=proved / { most = at }
+        END { print most + 0 }' "$log" 2>/dev/null || echo 0
 }
 
 not_proved() {
-    grep -aE ': error|^fn .*: no proof|^rt: ' "$log" | grep -aEv '^rt: [a-z0-9_]+ proved \(' >&2 || tail -n 20 "$log" >&2
+    grep -aE ': error|^fn .*: no proof|^rt: ' "$log" | grep -aEv '^rt: (chose|nothing has changed|running) ' >&2 || tail -n 20 "$log" >&2
     fail 1 "$crate is not proved; all that rt said is in $log"
 }
 
@@ -195,7 +205,7 @@ waiting() {
 }
 
 proving() {
-    echo "$(said '') of ${#crates[@]} crates proved"
+    echo "$(said) of ${#crates[@]} crates proved"
 }
 
 # Runs COMMAND and meanwhile says what SAY writes, with the seconds: on a terminal each second in one line, else a line every five seconds.

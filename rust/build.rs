@@ -1,5 +1,5 @@
-//! Links the proved archive, from ELECTION_LIB_DIR or ../target/staticlib: libabi.a as `rt staticlib abi` writes it, or libelection.a as
-//! `bin/install` names it.
+//! Links the proved archive, from ELECTION_LIB_DIR or ../target/staticlib: libabi.a as `bin/install` leaves it there, or
+//! libelection.a as that names it in the folder that it fills.
 use std::env;
 use std::path::PathBuf;
 
@@ -13,7 +13,7 @@ fn main() {
         .find(|name| dir.join(format!("lib{name}.a")).is_file())
     else {
         panic!(
-            "no libabi.a and no libelection.a in {}: run `rt staticlib abi`, or set ELECTION_LIB_DIR",
+            "no libabi.a and no libelection.a in {}: run bin/install, or set ELECTION_LIB_DIR",
             dir.display()
         );
     };

@@ -12,7 +12,7 @@ export WORK CLOCK
 trap 'rm -rf "$WORK"' EXIT
 chmod 755 "$WORK"
 mkdir "$WORK/tools" "$WORK/rt" "$WORK/links" "$WORK/log"
-for tool in bash env readlink dirname cat head tail awk find sort xargs sha256sum grep mkdir rm flock sleep base64 mktemp mkfifo; do
+for tool in bash env readlink dirname cat head tail awk find sort xargs sha256sum grep mkdir rm cp mv flock sleep base64 mktemp mkfifo; do
     ln -s "$(command -v "$tool")" "$WORK/tools/$tool"
 done
 paths=$WORK/rt:$WORK/tools
@@ -108,91 +108,88 @@ END
 # shellcheck source=/dev/null
 source "$WORK/seconds"
 
+# Called in a crate's folder, as rt is. Of the crates that it has no need to prove it says nothing.
 cat >"$WORK/rt/rt" <<'END'
 #!/usr/bin/env bash
 source "$WORK/seconds"
-echo "rt $*" >>"$WORK/calls"
+crate=${PWD##*/}
+echo "rt $* $crate" >>"$WORK/calls"
 
-proved() { # WORDS CRATE..
-    local crate
-    for crate in "${@:2}"; do echo "rt: $crate proved ($1)"; done
+proved() { # CRATE..
+    local each
+    for each; do printf '%s\n' "fn $each::one: proved" "crate $each: modules loaded=1 checked=2" 'logic=proved functions=1'; done
 }
 
-program() { # NAME
-    "$WORK/install" -m 755 "$WORK/$1" "target/bin/$1"
-    echo proved >"target/stamp/$1"
+program() {
+    "$WORK/tools/mkdir" -p out
+    "$WORK/install" -m 755 "$WORK/$crate" "out/$crate"
+    echo proved >"out/$crate.stamp"
+    echo "rt: running out/$crate; to give it other input, run that file yourself"
 }
-
-unchanged='unchanged since it was last proved'
 
 # As rt does: a program whose stamp stands is not made again.
 nothing_changed() {
-    proved "$unchanged" low middle
-    if [ -e "target/stamp/$2" ]; then
-        proved "$unchanged" "$2"
+    if [ -e "out/$crate.stamp" ]; then
+        echo "rt: nothing has changed since the last proved build, by out/$crate.stamp, so nothing is checked now"
     else
-        proved '2 s' "$2"
-        program "$2"
+        proved "$crate"
     fi
-    echo "rt: ok, 3 crates proved"
+    program
 }
 
 from_nothing() {
     seconds 7
-    echo 'fn low::one: proved'
-    proved '7 s' low
+    proved low
     seconds 11
-    proved '11 s' middle
-    proved '2 s' "$2"
-    program "$2"
-    echo "rt: ok, 3 crates proved"
+    proved middle "$crate"
+    program
 }
 
 edited_meanwhile() {
-    echo '// edited' >>crates/low/src/lib.rt
-    nothing_changed "$@"
+    echo '// edited' >>../low/src/lib.rt
+    nothing_changed
 }
 
 refused() {
-    proved '1 s' low
-    echo 'crates/middle/src/lib.rt:1:1: note: a hint'
-    echo 'crates/middle/src/lib.rt:3:1: error[unexpected-token]: expected expression'
+    proved low
+    echo 'rt: chose --jobs 2 for middle'
+    echo 'src/lib.rt:1:1: note: a hint'
+    echo 'src/lib.rt:3:1: error[unexpected-token]: expected expression'
     echo 'fn middle::two: no proof: expected a file'
-    echo 'rt: middle NOT PROVED (exit 1, 0 s)'
-    echo 'rt: FAILED: middle bench' >&2
+    echo 'rt: the library middle did not build, so nothing above it was checked' >&2
     exit 1
 }
 
 killed() {
-    proved '1 s' low
+    proved low
     echo 'out of memory' >&2
     exit 137
 }
 
 nothing_made() {
-    proved '1 s' low middle "$2"
+    proved low middle "$crate"
 }
 
 archive() {
-    proved "$unchanged" low
+    echo "rt: chose --jobs 2 for $crate"
     seconds 5
-    "$WORK/tools/mkdir" -p target/staticlib
-    echo archive >"target/staticlib/lib$2.a"
-    echo "rt: target/staticlib/lib$2.a has the functions of $2"
+    proved "$crate"
+    "$WORK/tools/mkdir" -p out
+    echo archive >"out/lib$crate.a"
 }
 
 until_told() {
     : >"$WORK/started"
     until_there "$WORK/go_on"
-    from_nothing_at_once "$@"
+    from_nothing_at_once
 }
 
 from_nothing_at_once() {
-    proved '1 s' low middle "$2"
-    program "$2"
+    proved low middle "$crate"
+    program
 }
 
-"$(cat "$WORK/plan")" "$@"
+"$(cat "$WORK/plan")"
 END
 ln -s "$(command -v install)" "$WORK/install"
 chmod +x "$WORK/bench" "$WORK/image_look" "$WORK/plot_draw" "$WORK/rt/rt" "$WORK/rt/sleep"
@@ -235,10 +232,10 @@ plan() { # FUNCTION
 # bench stands on low by the line of middle; other is not below it.
 scratch() {
     rm -rf "$WORK/root"
-    mkdir -p "$WORK/root/crates" "$WORK/root/target/bin" "$WORK/root/target/stamp"
+    mkdir -p "$WORK/root/crates" "$WORK/root/target"
     cp -R "$here/bin" "$WORK/root/bin"
-    printf '%s\n' '# crates' 'low:' 'bench: middle io # and low' 'other: low' 'middle: low' 'image_look: middle io' 'plot_draw: middle io' \
-        'histories_list: middle io' >"$WORK/root/crates.txt"
+    printf '%s\n' '# crates' 'low:' 'bench: middle csv # and low' 'other: low' 'middle staticlib: low' 'image_look: middle csv' 'plot_draw: middle csv' \
+        'histories_list: middle csv' >"$WORK/root/crates.txt"
     for crate in low middle other bench image_look plot_draw histories_list; do
         mkdir -p "$WORK/root/crates/$crate/src"
         echo "// $crate" >"$WORK/root/crates/$crate/src/lib.rt"
@@ -357,8 +354,11 @@ output() {
     echo much >"$WORK/plot"
     call 'root/bin/bench plot 2>log/none | head -n 0; [ "${PIPESTATUS[0]}" -ne 0 ] && echo "not 0"'
     note 'all of these'
-    printf '#!/usr/bin/env bash\nkill -KILL $$\n' >"$WORK/root/target/bin/bench"
+    mv "$WORK/bench" "$WORK/kept"
+    printf '#!/usr/bin/env bash\nkill -KILL $$\n' >"$WORK/bench"
+    rm "$WORK/root/target/bin/bench"
     call 'root/bin/bench plot' | grep -v 'Killed'
+    mv "$WORK/kept" "$WORK/bench"
 }
 
 full() {
@@ -376,7 +376,7 @@ full() {
     call 'root/bin/histories-against ./build 2 1 late >/dev/full'
     call 'root/bin/bench missing 2>/dev/full'
     echo '// more' >>"$WORK/root/crates/low/src/lib.rt"
-    rm "$WORK/root/target/bin/bench"
+    rm -r "$WORK/root/target/bin/bench" "$WORK/root/crates/bench/out"
     call 'root/bin/bench plot 2>/dev/full'
     call 'root/bin/bench plot'
     note 'proved with nowhere to say so'
@@ -450,6 +450,15 @@ proving() {
     rm "$WORK/root/target/bin/bench"
     call 'root/bin/bench plot'
     note 'the program removed'
+    rm -r "$WORK/root/target/bin/bench" "$WORK/root/crates/bench/out"
+    call 'root/bin/bench plot'
+    note 'the program removed, and what rt left'
+    echo '// kept by rt' >"$WORK/root/crates/low/out"
+    paths=$WORK/tools
+    call 'root/bin/bench plot'
+    paths=$WORK/rt:$WORK/tools
+    note 'something else that rt left, and no rt'
+    rm "$WORK/root/crates/low/out"
     echo '# another' >>"$WORK/root/target/bin/bench"
     call 'root/bin/bench plot'
     note 'another program in its place'
@@ -543,6 +552,8 @@ real() {
         eval "$line" >"$WORK/listing" 2>&1
         cmp examples/plot.out "$WORK/listing"
     done
+    bin/draw examples/plot.txt >"$WORK/listing"
+    cmp examples/plot.dot "$WORK/listing"
     for line in "bin/draw examples/plot.txt" "bin/draw - <examples/plot.txt" "bin/draw examples/plot.image" "cat examples/plot.image | bin/draw -"; do
         eval "$line" >"$WORK/listing" 2>&1
         cmp examples/plot.dot "$WORK/listing"
@@ -550,6 +561,7 @@ real() {
     bin/sketch examples/plan.dot >"$WORK/plan.image"
     [ "$(bin/image check "$WORK/plan.image")" = 0 ]
     bin/draw "$WORK/plan.image" | sed -e 's/^digraph/graph/' -e 's/  \(.*\) -> \(.*\);/  \2 -- \1;/' | cmp examples/plan.dot -
+    bin/histories 2 2 | cmp examples/histories.txt -
     bin/histories 2 2 2>&1 | cmp examples/histories.txt -
     bin/histories 1 1 | cmp /dev/null -
     refuses 1 'bin/histories 0 6'

@@ -122,7 +122,7 @@ against_no_bench() {
     cp "$WORK/bench" "$WORK/kept"
     for line in 'exit 0' 'echo listed; exit 1' 'kill -KILL $$'; do
         printf '#!/usr/bin/env bash\n%s\n' "$line" >"$WORK/bench"
-        rm -f "$WORK/root/target/bin/bench"
+        rm -rf "$WORK/root/target/bin/bench" "$WORK/root/crates/bench/out"
         call 'root/bin/histories-against ./build 2 1' | grep -v 'Killed'
     done
     cp "$WORK/kept" "$WORK/bench"

@@ -112,7 +112,7 @@ class Citations:
             return (*own, word)
         if own is not None and word in module.cases:
             return (*own, module.cases[word])
-        found = re.match(r"Rattle·([a-z_]+)(?:·\w+)?\.(specs|proofs)\.(.+)$", module.imports.get(word, ""))
+        found = re.match(r"Rattle\.([a-z_]+)\.(specs|proofs)\.(.+)$", module.imports.get(word, ""))
         if not found:
             return None
         kind, place = found.group(2), (found.group(1), found.group(3))
@@ -207,7 +207,7 @@ def main():
         print("\n".join(wrong))
         sys.exit(1)
 
-    own = glob.glob("crates/*/proofs/**/Proof.antt", recursive=True)
+    own = [p for f in ("Proof", "Invariants", "Answers") for p in glob.glob(f"crates/*/proofs/**/{f}.antt", recursive=True)]
     code = [line for p in sources for line in code_lines(p) if not line.startswith("ghost use")]
     rows = [
         ("crates", len(glob.glob("crates/*/"))),

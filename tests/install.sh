@@ -1,6 +1,6 @@
 #!/usr/bin/env bash
 # bin/install: what it writes, that a program builds from it alone, and what it says of wrong arguments, before it would prove anything.
-# A line and exit status 1 for the first thing that is wrong. Needs the archive (rt staticlib abi) and gcc.
+# A line and exit status 1 for the first thing that is wrong. Needs the archive (bin/install) and gcc.
 set -euo pipefail
 cd "$(dirname "$0")/.."
 root=$PWD
@@ -29,10 +29,10 @@ chmod +x "$work/fake/rt"
 
 # ---- a tree without an archive: arguments first, then the proof, whose failure is told
 
-mkdir -p "$work/tree/bin" "$work/tree/include" "$work/tree/crates"
+mkdir -p "$work/tree/bin" "$work/tree/include" "$work/tree/crates/abi"
 cp bin/install bin/common.sh "$work/tree/bin/"
 cp include/election.h "$work/tree/include/"
-echo "abi:" >"$work/tree/crates.txt"
+echo "abi staticlib:" >"$work/tree/crates.txt"
 touch "$work/file"
 says 2 "one DIR, the folder to fill" "$work/tree/bin/install"
 says 2 "one DIR, the folder to fill" "$work/tree/bin/install" ""

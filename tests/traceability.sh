@@ -97,16 +97,17 @@ awk '
 # ---- what is wrong
 
 bare() {
-    awk '/^ *pub (extern "C" )?fn /{ head = FILENAME ": " $0 } /ensures/ { head = "" } /\{$/ { if (head != "") print head; head = "" }' "$@"
+    awk '/^ *pub (extern "C" )?fn /{ head = FILENAME ": " $0 } /^ *ensures/ { head = "" } /^ *(requires|ghost)[ *]/ { next } /^ *\{$/ || /(fn |^ *\)).*\{$/ { if (head != "") print head; head = "" }' "$@"
 }
 
 # Widths and places in the code that reads and writes images: every number there but 0, 1 and 2 is one, unless it stands as below (the most stations, the
 # bits of a byte, the ends of ranges, the header's bytes for 10, the most bits that a reader takes, a dash) or where `image` names it.
 numbers() {
     awk '
+        # a clause, to the brace that closes it
         FNR == 1 { skip = 0 }
-        /⌜/ { skip = 1 }
-        skip { if (/⌝/) skip = 0; next }
+        !skip && /^ *(requires|ensures|ghost [a-z_]+:|ghost invariant)( |\*|$)/ { skip = 1; depth = 0 }
+        skip { depth += gsub(/\{/, "{") - gsub(/\}/, "}"); if (depth <= 0) skip = 0; next }
         /^ *(ghost )?use / { next }
         FILENAME == "crates/image/src/lib.rt" && /^pub const (HEADER_LENGTH|(DEPTH|VERSION|LENGTH|COUNT|CLOCK|SET|WAITING)_WIDTH): [a-z0-9]+ = [0-9]+;$/ { next }
         FILENAME == "crates/image/src/widths.rt" && /^(    \[32, 5, 1, depth, 32, 5, 5, 32\]|pub const DEPTH: usize = 3;)$/ { next }
@@ -143,7 +144,7 @@ bare_rust() { cat rust/src/*.rs | sed -e 's|//.*||' -e '/^const COUNTS/,/^];/d';
     done
     lists '[(]k[)]>0[?]32:0' include/election.h
     lists '32,5,1,' rust/src/*.rs
-    for lib in crates/*/src/lib.rt; do grep -q 'io::' "$lib" || bare "${lib%/*}"/*.rt; done | sed 's/^/no statement: /'
+    for lib in crates/*/src/lib.rt; do grep -qE 'io::|print(ln)?!|HostRuntime' "$lib" || bare "${lib%/*}"/*.rt; done | sed 's/^/no statement: /'
     grep -n 'NegatedTime(\|nlts_of(\|\.negated()' crates/*/src/*.rt | grep -v '^crates/height/\|NegatedTime(0)' | sed 's/^/a time negated: /' || true
     grep -n 'pair_of(' crates/*/src/*.rt | grep -v '^crates/height/\|^crates/abi/src/reports.rt:\|^crates/height_cases/' | sed 's/^/a leader pair made of a word: /' || true
     grep -Fxv -f "$work/there" "$work/named" | sed 's/^/not in the project: /' || true
