@@ -16,7 +16,8 @@ with open("crates.txt", encoding="utf-8") as lines:
         if line.startswith("# ---- "):
             layers.append((line[7:].strip(), []))
         elif ":" in line and not line.startswith("#"):
-            name, deps = line.split(":", 1)
+            names, deps = line.split(":", 1)
+            name = names.split()[0]
             layers[-1][1].append(name)
             below[name] = set(deps.split())
 
