@@ -3,3 +3,4 @@ pub mod Tests
 pub mod FunctionsLaws
 pub mod AllOf
 pub mod BytesLaws
+pub mod EveryLaws

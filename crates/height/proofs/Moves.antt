@@ -3,19 +3,22 @@ use Prim.Native.Nat.{ℕ, suc, max, ◌<◌, ◌≤◌}
 use native.Mathlib.Omega.{arith}
 use mathlib.Core.Bool.{Bool, true, false}
 use mathlib.Core.Path.{◌≡◌, refl, sym, ap, ◌∙◌}
-use lib.Dec.{ltb}
+use lib.Dec.{eqb, ltb}
 use borrow.Author.Tests.{lt-ltb, le-ltb, ltb-true, ltb-false}
+use Rattle.std.specs.Prelude.{Result, Ok, Err}
+use Rattle.basics.proofs.Tests.{clash}
+use Rattle.refusal.proofs.RefusalLaws.{never-0, why-injective}
 use Rattle.refusal.specs.Outcome.{Answered, accepted, refused_with}
 use Rattle.refusal.specs.Refusal.{why}
+use Rattle.refusal.specs.declared.Refusal.{Refusal}
 use Rattle.height.specs.Clock.{last_time, said_moved, clock_after}
-use Rattle.height.specs.declared.Moved.TheVariants.{To, AtEnd}
-use Rattle.height.specs.declared.Moved.{Moved}
+use Rattle.height.specs.declared.Time.{Time}
 
-pub said-moved-injective : (m n : Moved) → said_moved m ≡ said_moved n → m ≡ n
-said-moved-injective (To s) (To t) e = ap (λ (a : Answered ℕ). To (record { 0 = a.value })) e
-said-moved-injective (To s) AtEnd e = let z : ◌≡◌ {A = ℕ} 0 7 = ap (λ (a : Answered ℕ). a.why.number) e in absurd (omega arith)
-said-moved-injective AtEnd (To t) e = let z : ◌≡◌ {A = ℕ} 7 0 = ap (λ (a : Answered ℕ). a.why.number) e in absurd (omega arith)
-said-moved-injective AtEnd AtEnd e = refl
+pub said-moved-injective : (m n : Result Time Refusal) → said_moved m ≡ said_moved n → m ≡ n
+said-moved-injective (Ok s) (Ok t) e = ap (λ (a : Answered ℕ). Ok (record { 0 = a.value })) e
+said-moved-injective (Ok s) (Err r) e = clash (ap (λ (a : Answered ℕ). eqb a.why.number 0) (sym e)) (never-0 r)
+said-moved-injective (Err r) (Ok t) e = clash (ap (λ (a : Answered ℕ). eqb a.why.number 0) e) (never-0 r)
+said-moved-injective (Err r) (Err q) e = ap Err (why-injective r q (ap (λ (a : Answered ℕ). a.why) e))
 
 -- below the end the clock moves past both, at the end it does not
 pub clock-moves : (clock stamp : ℕ) → max clock stamp < last_time → clock_after clock stamp ≡ accepted (suc (max clock stamp))

@@ -10,6 +10,7 @@ use lib.Signed.{lt_z}
 use lib.Dec.{ltb}
 use lib.ListN.{length}
 use borrow.Author.Tests.{ltb-true, ltb-false, lt-ltb, le-ltb}
+use Rattle.std.proofs.lemmas.Bool.{cases_Bool}
 use Rattle.basics.proofs.Tests.{clash, not-true-is-false}
 use Rattle.height.specs.Order.{before, same}
 
@@ -51,10 +52,6 @@ compared (pos a) (pos b) = compared_pos a b (by_tests a b (ltb a b) (ltb b a) re
 compared (pos a) (negsuc b) = more refl
 compared (negsuc a) (pos b) = less refl
 compared (negsuc a) (negsuc b) = compared_neg a b (by_tests a b (ltb a b) (ltb b a) refl refl)
-
-pub true-or-false : (b : Bool) → (b ≡ true) ⊎ (b ≡ false)
-true-or-false true = inl refl
-true-or-false false = inr refl
 
 pub lt_z-asym : (x y : ℤ) → lt_z x y ≡ true → lt_z y x ≡ false
 lt_z-asym x y h = not-true-is-false (lt_z y x) (λ k. clash (lt_z-trans x y x h k) (lt_z-irrefl x))
@@ -137,7 +134,7 @@ before-append (x ∷ xs) (y ∷ ys) h r s = go (before-append xs ys) (split x y 
 
 -- "not before" is transitive, at equal lengths
 pub not-before-trans : (xs ys zs : List ℤ) → length xs ≡ length ys → before ys xs ≡ false → before zs ys ≡ false → before zs xs ≡ false
-not-before-trans xs ys zs e h k = not-true-is-false (before zs xs) (λ q. go q (true-or-false (before xs ys)))
+not-before-trans xs ys zs e h k = not-true-is-false (before zs xs) (λ q. go q (cases_Bool (before xs ys)))
   where
     go : before zs xs ≡ true → (before xs ys ≡ true) ⊎ (before xs ys ≡ false) → ⊥
     go q (inl p) = clash (before-trans zs xs ys q p) k
@@ -162,7 +159,7 @@ same_of xs ys h k = rw (h, k)
 
 pub same-is : (xs ys : List ℤ) → length xs ≡ length ys → same xs ys ≡ true → xs ≡ ys
 unfolding same
-same-is xs ys e h = go (true-or-false (before xs ys)) (true-or-false (before ys xs))
+same-is xs ys e h = go (cases_Bool (before xs ys)) (cases_Bool (before ys xs))
   where
     go : (before xs ys ≡ true) ⊎ (before xs ys ≡ false) → (before ys xs ≡ true) ⊎ (before ys xs ≡ false) → xs ≡ ys
     go (inl p) q = clash h (rw p)

@@ -1,10 +1,12 @@
 // Heights (document 01, "What a station holds"; source 001's 7-tuples), and the clock.
-// Fields have the source's names: tau, oid, r, delta, nlts, lid, id.
+// Fields have the source's names: tau, oid, r, delta, nlts, lid, id. They stand in the order in which the derives compare them.
 #![tactic(auto)]
 
 ghost use Rattle.std.specs.Prelude.{◌≡◌, neg_ℤ, pos};
 ghost use Rattle.height.specs.Clock.{said_moved, clock_after};
 ghost use Rattle.height.specs.Height.{self_elected};
+
+use refusal::Refusal;
 
 pub mod order;
 pub mod words;
@@ -18,15 +20,15 @@ pub const LEAST_DELTA: i32 = -32768;
 pub const GREATEST_DELTA: i32 = 32767;
 
 // A search time, or a clock. It grows.
-#[derive(Clone, Copy)]
+#[derive(Clone, Copy, PartialEq, Eq, PartialOrd, Ord)]
 pub struct Time(pub u32);
 
 // A negated election time, 0 down to -4,294,967,295. It falls.
-#[derive(Clone, Copy)]
+#[derive(Clone, Copy, PartialEq, Eq, PartialOrd, Ord)]
 pub struct NegatedTime(pub i64);
 
 // The reference level: search time, originator, reflection bit.
-#[derive(Clone, Copy)]
+#[derive(Clone, Copy, PartialEq, Eq, PartialOrd, Ord)]
 pub struct ReferenceLevel {
     pub tau: Time,
     pub oid: u32,
@@ -34,14 +36,14 @@ pub struct ReferenceLevel {
 }
 
 // The leader pair: negated election time, leader. The smaller is the more recent election.
-#[derive(Clone, Copy)]
+#[derive(Clone, Copy, PartialEq, Eq, PartialOrd, Ord)]
 pub struct LeaderPair {
     pub nlts: NegatedTime,
     pub lid: u32,
 }
 
 // A height: level, depth, pair, and the node that it belongs to.
-#[derive(Clone, Copy)]
+#[derive(Clone, Copy, PartialEq, Eq, PartialOrd, Ord)]
 pub struct Height {
     pub level: ReferenceLevel,
     pub delta: i32,
@@ -49,30 +51,16 @@ pub struct Height {
     pub id: u32,
 }
 
-// The clock after a move, or 7 where it has no number left.
-#[derive(Clone, Copy)]
-pub enum Moved {
-    To(Time),
-    AtEnd,
-}
-
 impl Time {
-    // The clock after a stamp: one more than the larger of the two, or the refusal at the clock's end.
-    pub fn after(self, stamp: Time) -> Moved
+    // The clock after a stamp: one more than the larger of the two, or 7 at the clock's end.
+    pub fn after(self, stamp: Time) -> Result<Time, Refusal>
         ensures { said_moved result ≡ clock_after self.0 stamp.0 }
     {
-        let clock = self.0;
-        let other = stamp.0;
-        if clock < other {
-            if other < LAST_TIME {
-                return Moved::To(Time(other + 1));
-            }
-            return Moved::AtEnd;
+        let latest = self.0.max(stamp.0);
+        if latest < LAST_TIME {
+            return Ok(Time(latest + 1));
         }
-        if clock < LAST_TIME {
-            return Moved::To(Time(clock + 1));
-        }
-        Moved::AtEnd
+        Err(Refusal::ClockEnd)
     }
 
     // The negated time of an election at this clock. Self-election alone turns one into the other.

@@ -1,10 +1,10 @@
 // The orders of heights, levels and leader pairs: lexicographic, as signed numbers.
-// There is one comparison, of heights; levels and pairs are parts of it. Callers use it and the tests at the end.
+// There is one comparison with places, of heights; levels and pairs are parts of it. The tests at the end ask the derived order.
 ghost use Rattle.std.specs.Prelude.{◌≡◌, [], ◌∷◌, pos};
 ghost use Rattle.height.specs.Comparison.{comparison, order_of, said_order};
 ghost use Rattle.height.specs.Height.{level_key, pair_key, height_key};
 ghost use Rattle.height.specs.Order.{before, same};
-ghost use Rattle.height.specs.inner.Parts.{and_then, is_less, is_equal};
+ghost use Rattle.height.specs.inner.Parts.{and_then};
 
 use super::{Height, LeaderPair, ReferenceLevel};
 
@@ -88,54 +88,34 @@ pub fn of_heights(a: Height, b: Height) -> Order
     and_then(level, and_then(delta, and_then(pair, id)))
 }
 
-fn is_less(order: Order) -> bool
-    ensures { result ≡ is_less order }
-{
-    match order {
-        Order::Less(_) => true,
-        Order::Equal => false,
-        Order::Greater(_) => false,
-    }
-}
-
-fn is_equal(order: Order) -> bool
-    ensures { result ≡ is_equal order }
-{
-    match order {
-        Order::Less(_) => false,
-        Order::Equal => true,
-        Order::Greater(_) => false,
-    }
-}
-
 // ---- the tests that callers use
 
 pub fn level_before(a: ReferenceLevel, b: ReferenceLevel) -> bool
     ensures { result ≡ before (level_key a) (level_key b) }
 {
-    is_less(of_levels(a, b))
+    a < b
 }
 
 pub fn level_same(a: ReferenceLevel, b: ReferenceLevel) -> bool
     ensures { result ≡ same (level_key a) (level_key b) }
 {
-    is_equal(of_levels(a, b))
+    a == b
 }
 
 pub fn pair_before(a: LeaderPair, b: LeaderPair) -> bool
     ensures { result ≡ before (pair_key a) (pair_key b) }
 {
-    is_less(of_pairs(a, b))
+    a < b
 }
 
 pub fn pair_same(a: LeaderPair, b: LeaderPair) -> bool
     ensures { result ≡ same (pair_key a) (pair_key b) }
 {
-    is_equal(of_pairs(a, b))
+    a == b
 }
 
 pub fn height_before(a: Height, b: Height) -> bool
     ensures { result ≡ before (height_key a) (height_key b) }
 {
-    is_less(of_heights(a, b))
+    a < b
 }

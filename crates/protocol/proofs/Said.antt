@@ -7,9 +7,9 @@ use lib.Dec.{eqb}
 use Rattle.refusal.specs.Refusal.{why_of}
 use Rattle.refusal.specs.declared.Refusal.{Refusal}
 use Rattle.refusal.proofs.RefusalLaws.{reason_from, reason-back, never-0}
-use Rattle.protocol.specs.Answer.{Said, carried_out, said_rule, said_refused, said}
-use Rattle.protocol.specs.declared.Answer.TheVariants.{Done, Refused}
-use Rattle.protocol.specs.declared.Answer.{Answer}
+use Rattle.std.specs.Prelude.{Ok, Err}
+use Rattle.protocol.specs.Answer.{Said, Answer, carried_out, said_rule, said_refused, said}
+use Rattle.protocol.specs.declared.Done.{Done}
 use Rattle.protocol.specs.declared.Rule.TheVariants.{ChannelUp, ElectSelf, StartNewRefLevel, NoChange, Ignored}
 use Rattle.protocol.specs.declared.Rule.TheVariants.{ReflectRefLevel, PropagateLargestRefLevel, AdoptLpIfPriority, Reply}
 use Rattle.protocol.specs.declared.Rule.{Rule}
@@ -36,9 +36,9 @@ rule_from s =
     (cond (eqb s.value.rule 80) (PropagateLargestRefLevel s.value.level_taken) (cond (eqb s.value.rule 65) (AdoptLpIfPriority s.value.adopted_from) Reply)))))))
 
 answer_from : Said → Answer
-answer_from s = cond (eqb s.why.number 0) (Done (rule_from s) s.value.sent_to) (Refused (reason_from s.why))
+answer_from s = cond (eqb s.why.number 0) (Ok (record { rule = rule_from s; sent_to = s.value.sent_to })) (Err (reason_from s.why))
 
-done-back : (rule : Rule) (set : ℕ) → answer_from (said_rule rule set) ≡ Done rule set
+done-back : (rule : Rule) (set : ℕ) → answer_from (said_rule rule set) ≡ Ok (record { rule = rule; sent_to = set })
 unfolding answer_from rule_from
 done-back ChannelUp set = refl
 done-back ElectSelf set = refl
@@ -50,13 +50,13 @@ done-back (PropagateLargestRefLevel l) set = refl
 done-back (AdoptLpIfPriority v) set = refl
 done-back Reply set = refl
 
-refused-back : (why : Refusal) → answer_from (said_refused (why_of why)) ≡ Refused why
+refused-back : (why : Refusal) → answer_from (said_refused (why_of why)) ≡ Err why
 unfolding answer_from
 refused-back why = rw (never-0 why, reason-back why)
 
 answer_back : (a : Answer) → answer_from (said a) ≡ a
-answer_back (Done rule set) = done-back rule set
-answer_back (Refused why) = refused-back why
+answer_back (Ok d) = done-back d.rule d.sent_to
+answer_back (Err why) = refused-back why
 
 pub said-injective : (a b : Answer) → said a ≡ said b → a ≡ b
 said-injective a b e = sym (answer_back a) ∙ (ap answer_from e ∙ answer_back b)

@@ -1,13 +1,13 @@
 -- What an answer says, in document 01's numbers and values: "Returned numbers", and the end of "The three events".
 -- Every promise about an answer goes through `said`; it is injective (proofs/Said.antt).
-use Rattle.std.specs.Prelude.{ℕ}
+use Rattle.std.specs.Prelude.{ℕ, Result, Ok, Err}
+use Rattle.refusal.specs.declared.Refusal.{Refusal}
 use Rattle.height.specs.Height.{zero_level}
 use Rattle.height.specs.declared.ReferenceLevel.{ReferenceLevel}
 use Rattle.refusal.specs.Outcome.{Answered, accepted, refused_with}
 use Rattle.refusal.specs.Refusal.{why_of}
 use Rattle.refusal.specs.declared.Why.{Why}
-use Rattle.protocol.specs.declared.Answer.TheVariants.{Done, Refused}
-use Rattle.protocol.specs.declared.Answer.{Answer}
+use Rattle.protocol.specs.declared.Done.{Done}
 use Rattle.protocol.specs.declared.Rule.TheVariants.{ChannelUp, ElectSelf, StartNewRefLevel, NoChange, Ignored}
 use Rattle.protocol.specs.declared.Rule.TheVariants.{ReflectRefLevel, PropagateLargestRefLevel, AdoptLpIfPriority, Reply}
 use Rattle.protocol.specs.declared.Rule.{Rule}
@@ -42,6 +42,10 @@ said_rule (PropagateLargestRefLevel l) set = carried_out 80 set 0 l
 said_rule (AdoptLpIfPriority v) set = carried_out 65 set v zero_level
 said_rule Reply set = carried_out 82 set 0 zero_level
 
+-- an event carried out, or why not
+abbrev pub Answer : Type 0
+Answer = Result Done Refusal
+
 abbrev pub said : Answer → Said
-said (Done rule set) = said_rule rule set
-said (Refused why) = said_refused (why_of why)
+said (Ok done) = said_rule done.rule done.sent_to
+said (Err why) = said_refused (why_of why)

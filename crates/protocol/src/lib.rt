@@ -19,9 +19,12 @@ pub enum Rule {
     Reply, // R
 }
 
+// An event carried out: the rule, and the set of nodes sent to.
 #[derive(Clone, Copy)]
-pub enum Answer {
-    // The rule, and the set of nodes sent to.
-    Done(Rule, u16),
-    Refused(Refusal),
+pub struct Done {
+    pub rule: Rule,
+    pub sent_to: u16,
 }
+
+// What an event answers.
+pub type Answer = Result<Done, Refusal>;

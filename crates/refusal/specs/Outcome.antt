@@ -1,7 +1,8 @@
 -- What a call says and what it leaves, for every call alike.
 -- A refused call leaves what was lent as it was: each call's own definition says so.
-use Rattle.std.specs.Prelude.{ℕ, cond, List, ◌++◌, eqb, leb, length, drop}
-use Rattle.refusal.specs.Refusal.{why}
+use Rattle.std.specs.Prelude.{ℕ, cond, List, ◌++◌, eqb, leb, length, drop, Result, Ok, Err}
+use Rattle.refusal.specs.Refusal.{why, why_of}
+use Rattle.refusal.specs.declared.Refusal.{Refusal}
 use Rattle.refusal.specs.declared.Why.{Why}
 
 -- what is said, and what is lent afterwards
@@ -22,6 +23,11 @@ accepted v = record { why = why 0 0 0; value = v }
 
 abbrev pub refused_with : {A : Type 0} → A → Why → Answered A
 refused_with none w = record { why = w; value = none }
+
+-- what a result says: its value, or its reason, with the value that stands for none
+abbrev pub said_as : {A : Type 0} → A → Result A Refusal → Answered A
+said_as none (Ok v) = accepted v
+said_as none (Err r) = refused_with none (why_of r)
 
 -- by what a check says: its refusal, else the answer
 abbrev pub after_check : {A : Type 0} → A → Why → Answered A → Answered A

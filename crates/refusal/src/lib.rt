@@ -5,7 +5,7 @@
 ghost use Rattle.std.specs.Prelude.{◌≡◌};
 ghost use Rattle.refusal.specs.Refusal.{why_of};
 
-#[derive(Clone, Copy)]
+#[derive(Clone, Copy, PartialEq, Eq)]
 pub enum Refusal {
     Sizes, // 1
     Fault(u32, u32), // 2, with the pair of the first fault
@@ -29,50 +29,52 @@ pub enum Refusal {
 }
 
 // The returned number; for 2 and 18 the pair at fault, else 0 and 0.
-#[derive(Clone, Copy)]
+#[derive(Clone, Copy, PartialEq, Eq)]
 pub struct Why {
     pub number: u32,
     pub u: u32,
     pub v: u32,
 }
 
-// The number that a reason returns.
-pub fn number(reason: Refusal) -> u32
-    ensures { result ≡ (why_of reason).number }
-{
-    match reason {
-        Refusal::Sizes => 1,
-        Refusal::Fault(_, _) => 2,
-        Refusal::NodeNumber => 3,
-        Refusal::AlreadyUp => 4,
-        Refusal::AlreadyDown => 5,
-        Refusal::NoMessage => 6,
-        Refusal::ClockEnd => 7,
-        Refusal::DeltaEnd => 8,
-        Refusal::ChannelFull => 9,
-        Refusal::TooShort => 10,
-        Refusal::BadHeader => 11,
-        Refusal::BadEnd => 12,
-        Refusal::NotPlace => 13,
-        Refusal::NoRoom => 14,
-        Refusal::Malformed => 15,
-        Refusal::NotSketch => 16,
-        Refusal::BadLink => 17,
-        Refusal::Untimely(_, _) => 18,
-        Refusal::TooLarge => 19,
+impl Refusal {
+    // The number that a reason returns.
+    pub fn number(self) -> u32
+        ensures { result ≡ (why_of self).number }
+    {
+        match self {
+            Refusal::Sizes => 1,
+            Refusal::Fault(_, _) => 2,
+            Refusal::NodeNumber => 3,
+            Refusal::AlreadyUp => 4,
+            Refusal::AlreadyDown => 5,
+            Refusal::NoMessage => 6,
+            Refusal::ClockEnd => 7,
+            Refusal::DeltaEnd => 8,
+            Refusal::ChannelFull => 9,
+            Refusal::TooShort => 10,
+            Refusal::BadHeader => 11,
+            Refusal::BadEnd => 12,
+            Refusal::NotPlace => 13,
+            Refusal::NoRoom => 14,
+            Refusal::Malformed => 15,
+            Refusal::NotSketch => 16,
+            Refusal::BadLink => 17,
+            Refusal::Untimely(_, _) => 18,
+            Refusal::TooLarge => 19,
+        }
     }
 }
 
-// Its number and its pair.
-pub fn said(reason: Refusal) -> Why
-    ensures { result ≡ why_of reason }
-{
-    let number = number(reason);
-    if let Refusal::Fault(u, v) = reason {
-        return Why { number, u, v };
+// A reason's number and pair.
+impl From<Refusal> for Why {
+    ghost from_gives = { λ reason why. why ≡ why_of reason };
+
+    fn from(reason: Refusal) -> Why {
+        let number = reason.number();
+        match reason {
+            Refusal::Fault(u, v) => Why { number, u, v },
+            Refusal::Untimely(u, v) => Why { number, u, v },
+            _ => Why { number, u: 0, v: 0 },
+        }
     }
-    if let Refusal::Untimely(u, v) = reason {
-        return Why { number, u, v };
-    }
-    Why { number, u: 0, v: 0 }
 }

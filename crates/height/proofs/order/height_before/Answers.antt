@@ -1,6 +1,7 @@
--- `height::order::height_before` meets its contract: what the answer of `of_heights` says.
-use Rattle.height.proofs.Compare.{said-less}
+-- `height::order::height_before` meets its contract: the derived `<` is `before` of the keys.
+use mathlib.Core.Path.{◌∙◌}
+use Rattle.height.proofs.Derived.{height-less}
 use Rattle.height.proofs.order.height_before.Goals as goal
 
 pub returns : goal.returns
-returns c = rw c.is_less.ensures (said-less _ _ c.of_heights.result c.of_heights.ensures)
+returns c = c.lt.ensures ∙ height-less _ _

@@ -1,6 +1,7 @@
--- `height::order::pair_same` meets its contract: what the answer of `of_pairs` says.
-use Rattle.height.proofs.Compare.{is-equal}
+-- `height::order::pair_same` meets its contract: the derived `==` is `same` of the keys.
+use mathlib.Core.Path.{◌∙◌}
+use Rattle.height.proofs.Derived.{pair-same}
 use Rattle.height.proofs.order.pair_same.Goals as goal
 
 pub returns : goal.returns
-returns c = rw (c.is_equal.ensures, c.of_pairs.ensures) (is-equal 5 _ _)
+returns c = c.eq.ensures ∙ pair-same _ _
