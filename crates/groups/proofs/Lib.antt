@@ -3,7 +3,6 @@ pub mod Partition
 pub mod Collectors
 pub mod Cases
 pub mod ClosureLaws
-pub mod LookLaws
 pub mod LoopLaws
 pub mod LinkLaws
 pub mod WalkLaws

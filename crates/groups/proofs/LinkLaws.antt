@@ -20,30 +20,26 @@ use Rattle.groups.proofs.LoopLaws.{apart_words}
 
 -- with node w next
 pub record Filled (n : ℕ) (f : ℕ → ℕ → Bool) (w : ℕ) (xs : List ℕ) : Type 0 where
-  pub low : 1 ≤ w
-  pub high : w ≤ n + 1
   pub size : length xs ≡ 16
   pub so_far : (k : ℕ) → 1 ≤ k → k < w → get_or xs (k - 1) 0 ≡ set_of n (f k)
 
 module _ (n : ℕ) (f : ℕ → ℕ → Bool) where
   pub fill_start : (xs : List ℕ) → length xs ≡ 16 → Filled n f 1 xs
-  fill_start xs e = record { low = omega arith; high = omega arith; size = e; so_far = λ k l h. absurd (omega arith) }
+  fill_start xs e = record { size = e; so_far = λ k l h. absurd (omega arith) }
 
-  pub fill-next : (w : ℕ) (xs : List ℕ) (x : ℕ) → Filled n f w xs → w ≤ n → n ≤ 16 → x ≡ set_of n (f w)
+  pub fill-next : (w : ℕ) (xs : List ℕ) (x : ℕ) → Filled n f w xs → 1 ≤ w → w ≤ 16 → x ≡ set_of n (f w)
       → Filled n f (w + 1) (set xs (w - 1) x)
-  fill-next w xs x done h few e = record {
-    low = omega arith;
-    high = omega arith;
+  fill-next w xs x done low few e = record {
     size = length-set xs (w - 1) x ∙ done.size;
     so_far = λ k l q. go k l q (equal? k w);
   }
     where
       go : (k : ℕ) → 1 ≤ k → k < w + 1 → SameOrNot k w → get_or (set xs (w - 1) x) (k - 1) 0 ≡ set_of n (f k)
       go k l q (inl d) =
-          ap (λ (j : ℕ). get_or (set xs (w - 1) x) (j - 1) 0) d ∙ get_or-set_same xs (w - 1) x 0 (omega (arith, done.size, done.low))
+          ap (λ (j : ℕ). get_or (set xs (w - 1) x) (j - 1) 0) d ∙ get_or-set_same xs (w - 1) x 0 (omega (arith, done.size))
           ∙ e ∙ ap (λ (j : ℕ). set_of n (f j)) (sym d)
       go k l q (inr d) =
-          get_or-set_other xs (w - 1) (k - 1) x 0 (λ s. d (let low : 1 ≤ w = done.low in omega arith)) ∙ done.so_far k l (omega arith)
+          get_or-set_other xs (w - 1) (k - 1) x 0 (λ s. d (omega arith)) ∙ done.so_far k l (omega arith)
 
   pub fill_done : (w : ℕ) (xs : List ℕ) → Filled n f w xs → n < w → SetWords n f xs
   fill_done w xs done h = record { size = done.size; at = λ k l q. done.so_far k l (omega arith) }

@@ -20,18 +20,16 @@ unfoldable pub before : ℕ → (ℕ → Bool) → ℕ → Bool
 before v f k = ltb k v && f k
 
 -- with node v next: the nodes below v that pass
-pub record Gathered (f : ℕ → Bool) (n v s : ℕ) : Type 0 where
-  pub low : 1 ≤ v
-  pub high : v ≤ n + 1
+pub record Gathered (f : ℕ → Bool) (v s : ℕ) : Type 0 where
   pub so_far : s ≡ set_of 16 (before v f)
 
-module _ (f : ℕ → Bool) (n : ℕ) where
+module _ (f : ℕ → Bool) where
   below_one : (k : ℕ) → 1 ≤ k → before 1 f k ≡ false
   unfolding before
   below_one k l = rw (le-ltb k 1 l)
 
-  pub gather-start : Gathered f n 1 0
-  gather-start = record { low = omega arith; high = omega arith; so_far = sym (set_of-none 16 (before 1 f) (λ k l h. below_one k l)) }
+  pub gather-start : Gathered f 1 0
+  gather-start = record { so_far = sym (set_of-none 16 (before 1 f) (λ k l h. below_one k l)) }
 
   before-next : (v k : ℕ) → (k ≡ v → ⊥) → before (v + 1) f k ≡ before v f k
   unfolding before
@@ -68,9 +66,9 @@ module _ (f : ℕ → Bool) (n : ℕ) where
       go (inl q) = ap (before v f) q ∙ before-not v ∙ sym (ap (before (v + 1) f) q ∙ before_here v ∙ e)
       go (inr d) = sym (before-next v k d)
 
-  pub gather-next : (v s : ℕ) (b : Bool) → Gathered f n v s → v ≤ n → b ≡ f v → Gathered f n (v + 1) (add_if s v b)
+  pub gather-next : (v s : ℕ) (b : Bool) → Gathered f v s → b ≡ f v → Gathered f (v + 1) (add_if s v b)
   unfolding add_if
-  gather-next v s b g h e = record { low = omega arith; high = omega arith; so_far = go (choice b) }
+  gather-next v s b g e = record { so_far = go (choice b) }
     where
       go : Choice b → cond b (set_of 16 (in_either (member s) (same_node v))) s ≡ set_of 16 (before (v + 1) f)
       go (yes! q) =
@@ -80,48 +78,39 @@ module _ (f : ℕ → Bool) (n : ℕ) where
           ap (λ (x : Bool). cond x (set_of 16 (in_either (member s) (same_node v))) s) q
           ∙ g.so_far ∙ set_of-ext 16 _ _ (λ k l u. without-here v k (sym e ∙ q))
 
-  past_all : (v k : ℕ) → n < v → k ≤ n → before v f k ≡ f k
+  past_all : (v k : ℕ) → k < v → before v f k ≡ f k
   unfolding before
-  past_all v k l h = rw (lt-ltb k v (omega arith))
+  past_all v k l = rw (lt-ltb k v l)
 
   past-none : (v k : ℕ) → v ≤ k → before v f k ≡ false
   unfolding before
   past-none v k l = rw (le-ltb k v l)
 
-  pub gather-done : (v s : ℕ) → Gathered f n v s → n < v → n ≤ 16 → s ≡ set_of n f
-  gather-done v s g l few =
-      let top : v ≤ n + 1 = g.high in
+  pub gather-done : (n v s : ℕ) → Gathered f v s → v ≡ n + 1 → n ≤ 16 → s ≡ set_of n f
+  gather-done n v s g e few =
       g.so_far ∙ set_of-more n 16 (before v f) few (λ k h. past-none v k (omega arith))
-      ∙ set_of-ext n _ _ (λ k p q. past_all v k l q)
+      ∙ set_of-ext n _ _ (λ k p q. past_all v k (omega arith))
 
 -- ---- a test of every node
 
 -- with node v next
-pub record Tested (f : ℕ → Bool) (n v : ℕ) (ok : Bool) : Type 0 where
-  pub low : 1 ≤ v
-  pub high : v ≤ n + 1
+pub record Tested (f : ℕ → Bool) (v : ℕ) (ok : Bool) : Type 0 where
   pub so_far : ok ≡ every (v - 1) f
 
-module _ (f : ℕ → Bool) (n : ℕ) where
-  pub tested-start : Tested f n 1 true
+module _ (f : ℕ → Bool) where
+  pub tested-start : Tested f 1 true
   unfolding every
-  tested-start = record { low = omega arith; high = omega arith; so_far = refl }
+  tested-start = record { so_far = refl }
 
-  pub tested-next : (v : ℕ) (ok b : Bool) → Tested f n v ok → v ≤ n → b ≡ f v → Tested f n (v + 1) (b && ok)
+  pub tested-next : (v : ℕ) (ok b : Bool) → Tested f v ok → 1 ≤ v → b ≡ f v → Tested f (v + 1) (b && ok)
   unfolding every
-  tested-next v ok b g h e =
-      let low : 1 ≤ v = g.low in
+  tested-next v ok b g low e =
       let q : v + 1 - 1 ≡ suc (v - 1) = omega arith in
       let p : suc (v - 1) ≡ v = omega arith in
-      record {
-        low = omega arith;
-        high = omega arith;
-        so_far = ap₂ ◌&&◌ (e ∙ ap f (sym p)) g.so_far ∙ sym (ap (λ (k : ℕ). every k f) q);
-      }
+      record { so_far = ap₂ ◌&&◌ (e ∙ ap f (sym p)) g.so_far ∙ sym (ap (λ (k : ℕ). every k f) q) }
 
-  pub tested-done : (v : ℕ) (ok : Bool) → Tested f n v ok → n < v → ok ≡ every n f
-  tested-done v ok g h =
-      let top : v ≤ n + 1 = g.high in
+  pub tested-done : (n v : ℕ) (ok : Bool) → Tested f v ok → v ≡ n + 1 → ok ≡ every n f
+  tested-done n v ok g e =
       let q : v - 1 ≡ n = omega arith in
       g.so_far ∙ ap (λ (k : ℕ). every k f) q
 
@@ -129,7 +118,6 @@ module _ (f : ℕ → Bool) (n : ℕ) where
 
 -- after k rounds
 pub record Rounds (n : ℕ) (links : ℕ → ℕ → Bool) (u k s : ℕ) : Type 0 where
-  pub high : k ≤ n
   pub rest : rounds (n - k) n links s ≡ group_by n links u
 
 module _ (n : ℕ) (links : ℕ → ℕ → Bool) (u : ℕ) where
@@ -138,7 +126,6 @@ module _ (n : ℕ) (links : ℕ → ℕ → Bool) (u : ℕ) where
   rounds-start s h few e =
       let q : n - 0 ≡ n = omega arith in
       record {
-        high = omega arith;
         rest =
             ap (λ (j : ℕ). rounds j n links s) q
             ∙ ap (rounds n n links) (e ∙ set_of-more n 16 (same_node u) few (λ k l. not_same u k (λ q. omega arith)));
@@ -148,10 +135,7 @@ module _ (n : ℕ) (links : ℕ → ℕ → Bool) (u : ℕ) where
   unfolding rounds
   rounds-next k s r g l e =
       let q : n - k ≡ suc (n - (k + 1)) = omega arith in
-      record {
-        high = omega arith;
-        rest = ap (rounds (n - (k + 1)) n links) e ∙ sym (ap (λ (j : ℕ). rounds j n links s) q) ∙ g.rest;
-      }
+      record { rest = ap (rounds (n - (k + 1)) n links) e ∙ sym (ap (λ (j : ℕ). rounds j n links s) q) ∙ g.rest }
 
   fixed : (k s : ℕ) → one_round n links s ≡ s → rounds k n links s ≡ s
   unfolding rounds

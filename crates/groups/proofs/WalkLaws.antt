@@ -10,7 +10,7 @@ use Rattle.protocol.specs.Network.{Node, Message, up_to, own}
 use Rattle.protocol.specs.Quiet.{pair_quiet}
 use Rattle.tables.specs.Tables.{Tables}
 use Rattle.groups.specs.Groups.{collects}
-use Rattle.groups.specs.inner.Looks.{waiting_on, leader_of}
+use Rattle.lent.specs.inner.Looks.{waiting_on}
 use Rattle.groups.specs.inner.Words.{in_words, SetWords}
 use Rattle.protocol.specs.Holds.{is_empty}
 use Rattle.tables.specs.Load.{load}
@@ -21,8 +21,8 @@ empty-is [] = refl
 empty-is (m ∷ ms) = eqb-suc-zero (length ms)
 
 module _ (n : ℕ) (t : Tables) where
-  pub collect-test : (s w lid : ℕ) (a : Bool) → lid ≡ leader_of n t w → a ≡ member s w → (a && eqb lid w) ≡ collects (own (load n t)) s w
-  unfolding collects leader_of
+  pub collect-test : (s w lid : ℕ) (a : Bool) → lid ≡ (own (load n t) w).pair.lid → a ≡ member s w → (a && eqb lid w) ≡ collects (own (load n t)) s w
+  unfolding collects
   collect-test s w lid a e p = ap₂ (λ (x : Bool) (y : ℕ). x && eqb y w) p e
 
   module _ (ups : List ℕ) (read : SetWords n (up_to (load n t)) ups) where
@@ -30,10 +30,10 @@ module _ (n : ℕ) (t : Tables) where
     unfolding in_words
     up-found u v out a x y e q = q ∙ ap (λ (s : ℕ). member s v) e ∙ in-words n (up_to (load n t)) ups read u v x y
 
-    pub quiet-test : (u v out back waits : ℕ) (a b q : Bool) → Node n u → Node n v → out ≡ get_or ups (u - 1) 0 → back ≡ get_or ups (v - 1) 0
-        → waits ≡ waiting_on n t u v → a ≡ member out v → b ≡ member back u → q ≡ beq a b
-        → (eqb waits 0 && q) ≡ pair_quiet (load n t) u v
+    pub quiet-test : (u v out back waits : ℕ) (a b : Bool) → Node n u → Node n v → out ≡ get_or ups (u - 1) 0 → back ≡ get_or ups (v - 1) 0
+        → waits ≡ waiting_on n t u v → a ≡ member out v → b ≡ member back u
+        → (eqb waits 0 && beq a b) ≡ pair_quiet (load n t) u v
     unfolding pair_quiet waiting_on
-    quiet-test u v out back waits a b q x y e f w p r s =
+    quiet-test u v out back waits a b x y e f w p r =
         ap₂ ◌&&◌ (ap (λ (k : ℕ). eqb k 0) w ∙ empty-is ((load n t).channel u v))
-        (s ∙ ap₂ beq (up-found u v out a x y e p) (up-found v u back b y x f r))
+        (ap₂ beq (up-found u v out a x y e p) (up-found v u back b y x f r))

@@ -3,20 +3,14 @@ use Rattle.std.specs.Prelude.{ℕ, cond}
 use Rattle.lent.specs.Check.{check_on}
 use Rattle.protocol.specs.Network.{Network, up_to, own, is_node}
 use Rattle.refusal.specs.Outcome.{Answered, accepted, refused_with, after_check}
-use Rattle.refusal.specs.Refusal.{why, why_of}
+use Rattle.refusal.specs.Refusal.{why}
 use Rattle.tables.specs.Load.{load}
 use Rattle.tables.specs.Tables.{Tables}
 use Rattle.groups.specs.Groups.{group_of, collectors_in}
 use Rattle.groups.specs.declared.Group.{Group}
-use Rattle.groups.specs.declared.GroupRead.TheVariants.{Found, Refused}
-use Rattle.groups.specs.declared.GroupRead.{GroupRead}
 
 abbrev pub no_group : Group
 no_group = record { members = 0; collectors = 0 }
-
-abbrev pub said_group : GroupRead → Answered Group
-said_group (Found g) = accepted g
-said_group (Refused r) = refused_with no_group (why_of r)
 
 abbrev pub with_collectors : ℕ → Network → ℕ → Group
 with_collectors n p s = record { members = s; collectors = collectors_in n (own p) s }

@@ -1,3 +1,2 @@
 -- Definitions for leaf functions and proofs: no public promise cites them.
-pub mod Looks
 pub mod Words

@@ -3,35 +3,20 @@
 #![tactic(auto)]
 
 ghost use Rattle.std.specs.Prelude.{◌≡◌};
+ghost use Rattle.refusal.specs.Outcome.{said_as};
 ghost use Rattle.protocol.specs.Network.{Network};
 ghost use Rattle.tables.specs.Load.{load};
-ghost use Rattle.groups.specs.Group.{said_group, group_named, group_on};
+ghost use Rattle.groups.specs.Group.{group_named, group_on, no_group};
 ghost use Rattle.groups.specs.Groups.{the_one};
-ghost use Rattle.groups.specs.Heads.{said_heads, heads_on};
+ghost use Rattle.groups.specs.Heads.{heads_on};
 ghost use Rattle.groups.specs.Quiet.{said_quiet, quiet_on};
-ghost use Rattle.groups.specs.inner.Looks.{Passes};
 ghost use Rattle.tables.specs.Tables.{tables};
 
-use lent::Checked;
+use lent::Sound;
 use refusal::Refusal;
 
-mod looks;
 mod walks;
 mod words;
-
-// Whether the network is quiet, or sizes (1), the pair at fault (2), the untimely pair (18).
-#[derive(Clone, Copy)]
-pub enum QuietRead {
-    Found(bool),
-    Refused(Refusal),
-}
-
-// The lowest members of all groups, or 1, 2, 18.
-#[derive(Clone, Copy)]
-pub enum HeadsRead {
-    Found(u16),
-    Refused(Refusal),
-}
 
 // A group: its members, and the collectors among them.
 #[derive(Clone, Copy)]
@@ -40,57 +25,45 @@ pub struct Group {
     pub collectors: u16,
 }
 
-// A node's group, or 1, 2, 18, or no such node (3).
-#[derive(Clone, Copy)]
-pub enum GroupRead {
-    Found(Group),
-    Refused(Refusal),
-}
-
-// Whether no message waits and each channel is up exactly when the one back is.
-pub fn is_quiet(n: u32, nodes: &[u32], channels: &[u32]) -> QuietRead
+// Whether no message waits and each channel is up exactly when the one back is; or 1, 2, 18.
+pub fn is_quiet(n: u32, nodes: &[u32], channels: &[u32]) -> Result<bool, Refusal>
     ensures { said_quiet result ≡ quiet_on n (tables nodes.now channels.now) }
 {
-    match lent::check(n, nodes, channels) {
-        Checked::Sound => QuietRead::Found(walks::is_quiet(n, nodes, channels)),
-        Checked::Refused(why) => QuietRead::Refused(why),
-    }
+    lent::check(n, nodes, channels)?;
+    let plot = Sound { n, nodes, channels };
+    Ok(walks::is_quiet(plot))
 }
 
-// The lowest members of all groups as a set, one for each group.
-pub fn heads(n: u32, nodes: &[u32], channels: &[u32]) -> HeadsRead
-    ensures { said_heads result ≡ heads_on n (tables nodes.now channels.now) }
+// The lowest members of all groups as a set, one for each group; or 1, 2, 18.
+pub fn heads(n: u32, nodes: &[u32], channels: &[u32]) -> Result<u16, Refusal>
+    ensures { said_as 0 result ≡ heads_on n (tables nodes.now channels.now) }
 {
-    match lent::check(n, nodes, channels) {
-        Checked::Sound => HeadsRead::Found(walks::heads(n, nodes, channels)),
-        Checked::Refused(why) => HeadsRead::Refused(why),
-    }
+    lent::check(n, nodes, channels)?;
+    let plot = Sound { n, nodes, channels };
+    Ok(walks::heads(plot))
 }
 
-// Tables that pass: 3, or u's group.
-fn named(n: u32, u: u32, nodes: &[u32], channels: &[u32]) -> GroupRead
-    requires { Passes n (tables nodes.now channels.now) }
-    ensures { said_group result ≡ group_named n u (load n (tables nodes.now channels.now)) }
+// 3, or u's group.
+fn named(plot: Sound, u: u32) -> Result<Group, Refusal>
+    ensures { said_as no_group result ≡ group_named plot.entry.n u (load plot.entry.n (tables plot.entry.nodes.now plot.entry.channels.now)) }
 {
-    if (1 <= u) & (u <= n) {
-        let members = walks::group(n, u, nodes, channels);
-        let collectors = walks::collectors(n, members, nodes, channels);
-        return GroupRead::Found(Group {
+    if (1 <= u) & (u <= plot.n) {
+        let members = walks::group(plot, u);
+        let collectors = walks::collectors(plot, members);
+        return Ok(Group {
             members,
             collectors,
         });
     }
-    GroupRead::Refused(Refusal::NodeNumber)
+    Err(Refusal::NodeNumber)
 }
 
-// The group of node u, and its collectors.
-pub fn group_of(n: u32, u: u32, nodes: &[u32], channels: &[u32]) -> GroupRead
-    ensures { said_group result ≡ group_on n u (tables nodes.now channels.now) }
+// The group of node u, and its collectors; or 1, 2, 18, or no such node (3).
+pub fn group_of(n: u32, u: u32, nodes: &[u32], channels: &[u32]) -> Result<Group, Refusal>
+    ensures { said_as no_group result ≡ group_on n u (tables nodes.now channels.now) }
 {
-    match lent::check(n, nodes, channels) {
-        Checked::Sound => named(n, u, nodes, channels),
-        Checked::Refused(why) => GroupRead::Refused(why),
-    }
+    lent::check(n, nodes, channels)?;
+    named(Sound { n, nodes, channels }, u)
 }
 
 // The one node of a set; 0 where there is none, or more than one.

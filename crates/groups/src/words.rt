@@ -16,12 +16,6 @@ pub fn add_if(s: u16, k: u32, yes: bool) -> u16
     s
 }
 
-pub fn blank() -> [u16; 16]
-    ensures { length result ≡ 16 }
-{
-    [0; 16]
-}
-
 // Who is linked with w: up both ways. Nobody, where nobody is up from w.
 fn links(n: u32, w: u32, ups: &[u16]) -> u16
     requires { (n ≤ 16) × (length ups.now ≡ 16) × Node n w }
@@ -33,13 +27,11 @@ fn links(n: u32, w: u32, ups: &[u16]) -> u16
         return 0;
     }
     let mut s: u16 = 0;
-    let mut v = 1;
-    while v <= n {
+    for v in 1..n + 1 {
         let j = (v - 1) as usize;
         let back = ups[j];
         let yes = nodeset::contains(out, v) & nodeset::contains(back, w);
         s = add_if(s, v, yes);
-        v += 1;
     }
     s
 }
@@ -49,12 +41,10 @@ pub fn fill_links(n: u32, ups: &[u16], near: &mut [u16])
     requires { (n ≤ 16) × (length ups.now ≡ 16) × (length near.old ≡ 16) }
     ensures { SetWords n (linked (in_words ups.now)) near.new }
 {
-    let mut w = 1;
-    while w <= n {
+    for w in 1..n + 1 {
         let set = links(n, w, ups);
         let i = (w - 1) as usize;
         near[i] = set;
-        w += 1;
     }
 }
 
@@ -64,13 +54,11 @@ fn one_round(n: u32, s: u16, near: &[u16]) -> u16
     ensures { result ≡ one_round n (in_words near.now) s }
 {
     let mut out: u16 = 0;
-    let mut w = 1;
-    while w <= n {
+    for w in 1..n + 1 {
         let i = (w - 1) as usize;
         let set = near[i];
         let yes = nodeset::contains(s, w) | !nodeset::disjoint(s, set);
         out = add_if(out, w, yes);
-        w += 1;
     }
     out
 }
@@ -85,14 +73,12 @@ pub fn group(n: u32, u: u32, near: &[u16]) -> u16
     if near[i] == 0 {
         return s;
     }
-    let mut k = 0;
-    while k < n {
+    for k in 0..n {
         let next = one_round(n, s, near);
         if next == s {
             return s;
         }
         s = next;
-        k += 1;
     }
     s
 }
@@ -103,10 +89,8 @@ fn all_nodes(n: u32) -> u16
     ensures { result ≡ set_of n (λ k. true) }
 {
     let mut out: u16 = 0;
-    let mut w = 1;
-    while w <= n {
+    for w in 1..n + 1 {
         out = add_if(out, w, true);
-        w += 1;
     }
     out
 }

@@ -140,50 +140,38 @@ module _ (n : ℕ) (t : Tables) (size : Sized n t) (rows_are : (u : ℕ) → Nod
 
 -- with row u next: the rows below u are fresh, the others are zero
 pub record FilledTo (n u : ℕ) (nodes : List ℕ) : Type 0 where
-  pub low : 1 ≤ u
-  pub high : u ≤ n + 1
-  pub few : n ≤ 16
   pub size : length nodes ≡ n * width n
   pub written : (x : ℕ) → Node n x → x < u → node_of n x nodes ≡ fresh_row n x
   pub blank : (x : ℕ) → Node n x → u ≤ x → node_of n x nodes ≡ replicate (width n) 0
 
-pub filled_none : (n : ℕ) (nodes : List ℕ) → n ≤ 16 → nodes ≡ replicate (n * width n) 0 → FilledTo n 1 nodes
-filled_none n nodes few e = record {
-  low = omega arith;
-  high = omega arith;
-  few = few;
+pub filled_none : (n : ℕ) (nodes : List ℕ) → nodes ≡ replicate (n * width n) 0 → FilledTo n 1 nodes
+filled_none n nodes e = record {
   size = ap length e ∙ length-replicate {A = ℕ} (n * width n) 0;
   written = λ x a l. absurd (omega (arith, a.low));
   blank = λ x a l. ap (node_of n x) e ∙ zero_row (width n) n (x - 1) (omega (arith, a.low, a.high));
 }
 
-module _ (n u : ℕ) (nodes : List ℕ) (f : FilledTo n u nodes) (inside : u ≤ n) where
-  pub next-node : Node n u
-  next-node = record { low = f.low; high = inside }
-
+module _ (n u : ℕ) (nodes : List ℕ) (f : FilledTo n u nodes) (here : Node n u) where
   row_written : put_height (node_of n u nodes) u (fresh_height u) ≡ fresh_row n u
   unfolding fresh_row
-  row_written = rw (f.blank u next-node (omega arith))
+  row_written = rw (f.blank u here (omega arith))
 
   fresh-length : length (fresh_row n u) ≡ width n
-  fresh-length = (fresh-fits n u next-node).wide
+  fresh-length = (fresh-fits n u here).wide
 
   -- the part nodes[a..e] that is lent
   pub part-wide : {a e : ℕ} → a ≡ (u - 1) * width n → e ≡ a + width n → length (take (e - a) (drop a nodes)) ≡ width n
-  part-wide starts ends = ap length (part-row (width n) (u - 1) nodes starts ends) ∙ node-length n u next-node nodes f.size
+  part-wide starts ends = ap length (part-row (width n) (u - 1) nodes starts ends) ∙ node-length n u here nodes f.size
 
   -- nodes after that part came back as the row of u
   pub filled-one : {a e : ℕ} {h : Height} {r next : List ℕ} → a ≡ (u - 1) * width n → e ≡ a + width n → h ≡ fresh_height u
       → r ≡ put_height (take (e - a) (drop a nodes)) u h → next ≡ take a nodes ++ (r ++ drop (e - a) (drop a nodes))
       → FilledTo n (u + 1) next
   filled-one {a} {e} {h} {r} {next} starts ends is-fresh written back = record {
-    low = omega arith;
-    high = omega (arith, f.high);
-    few = f.few;
-    size = rw put (node-put-length n u next-node nodes f.size (fresh_row n u) fresh-length);
+    size = rw put (node-put-length n u here nodes f.size (fresh_row n u) fresh-length);
     written = λ x b l. at x b (equal? x u) l;
     blank = λ x b l.
-        rw put (node-other n u next-node nodes f.size (fresh_row n u) fresh-length x b (λ q. omega arith) ∙ f.blank x b (omega arith));
+        rw put (node-other n u here nodes f.size (fresh_row n u) fresh-length x b (λ q. omega arith) ∙ f.blank x b (omega arith));
   }
     where
       put : next ≡ put_node n u (fresh_row n u) nodes
@@ -193,15 +181,15 @@ module _ (n u : ℕ) (nodes : List ℕ) (f : FilledTo n u nodes) (inside : u ≤
           ∙ ap (λ (row : List ℕ). put_node n u row nodes) row_written
 
       at : (x : ℕ) → Node n x → (x ≡ u) ⊎ (x ≡ u → ⊥) → x < u + 1 → node_of n x next ≡ fresh_row n x
-      at x b (inl q) l = rw (put, q) (node-put n u next-node nodes f.size (fresh_row n u) fresh-length)
+      at x b (inl q) l = rw (put, q) (node-put n u here nodes f.size (fresh_row n u) fresh-length)
       at x b (inr d) l =
-          rw put (node-other n u next-node nodes f.size (fresh_row n u) fresh-length x b d ∙ f.written x b (omega arith))
+          rw put (node-other n u here nodes f.size (fresh_row n u) fresh-length x b d ∙ f.written x b (omega arith))
 
-pub filled-all : (n u : ℕ) (nodes channels : List ℕ) → 1 ≤ n → FilledTo n u nodes → n < u
+pub filled-all : (n u : ℕ) (nodes channels : List ℕ) → 1 ≤ n → n ≤ 16 → FilledTo n u nodes → n < u
     → channels ≡ replicate (n * n * cell_width) 0 → tables nodes channels ≡ tables_of n fresh
-filled-all n u nodes channels low f past empty =
+filled-all n u nodes channels low few f past empty =
     fresh-tables n (tables nodes channels)
-    (record { low = low; few = f.few; nodes = f.size; channels = ap length empty ∙ length-replicate {A = ℕ} (n * n * cell_width) 0 })
+    (record { low = low; few = few; nodes = f.size; channels = ap length empty ∙ length-replicate {A = ℕ} (n * n * cell_width) 0 })
     (λ x a. f.written x a (omega (arith, a.high)))
     (λ x y a b. ap (channel_of n x y) empty ∙ zero_row cell_width (n * n) (pair_of n x y) (pair_lt n x y a b))
 

@@ -6,3 +6,4 @@ pub mod SoundNetworks
 pub mod SoundLoads
 pub mod FilledLaws
 pub mod PutLaws
+pub mod LookLaws

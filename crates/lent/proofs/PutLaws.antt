@@ -9,16 +9,15 @@ use Rattle.refusal.specs.declared.Why.{Why}
 use Rattle.refusal.proofs.OutcomeLaws.{put-passed, put_refused}
 use Rattle.tables.specs.Tables.{Tables}
 use Rattle.lent.specs.Check.{said_check, check_on}
-use Rattle.lent.specs.declared.Checked.{Checked}
-use Rattle.lent.specs.declared.Checked.TheVariants.{Sound, Refused}
+use Rattle.std.specs.Prelude.{Result, Ok, Err, ⊤}
 
-module _ (n : ℕ) (t : Tables) {r : Checked} (answers : said_check r ≡ check_on n t) where
-  pub passes : r ≡ Sound → (check_on n t).number ≡ 0
+module _ (n : ℕ) (t : Tables) {r : Result ⊤ Refusal} (answers : said_check r ≡ check_on n t) where
+  pub passes : r ≡ Ok tt → (check_on n t).number ≡ 0
   passes h = ap (λ (s : Why). s.number) (sym answers ∙ ap said_check h)
 
   module _ (b out : List ℕ) where
-    pub put-sound : r ≡ Sound → put_front b out ≡ put_checked (check_on n t) b out
+    pub put-sound : r ≡ Ok tt → put_front b out ≡ put_checked (check_on n t) b out
     put-sound h = put-passed b out (check_on n t) (passes h)
 
-    pub put-turned-away : {why : Refusal} → r ≡ Refused why → outcome (refused_with 0 (why_of why)) out ≡ put_checked (check_on n t) b out
+    pub put-turned-away : {why : Refusal} → r ≡ Err why → outcome (refused_with 0 (why_of why)) out ≡ put_checked (check_on n t) b out
     put-turned-away {why} h = put_refused b out (check_on n t) why (ap said_check (sym h) ∙ answers)

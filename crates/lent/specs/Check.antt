@@ -1,17 +1,16 @@
 -- Refusals 1, 2 and 18: the sizes of the tables, then the first pair at which their words break a rule of "What a station holds", then, where
 -- none does, the first whose times make no sense (document 02, [3]). The tests of one pair are `pair_sound` and `timely_in` of the crate `pairs`.
-use Rattle.std.specs.Prelude.{ℕ, zero, suc, Bool, cond, eqb}
+use Rattle.std.specs.Prelude.{ℕ, zero, suc, Bool, cond, eqb, Result, Ok, Err, ⊤}
 use Rattle.pairs.specs.Pair.{pair_sound, timely_in}
 use Rattle.refusal.specs.Refusal.{why, why_of}
 use Rattle.refusal.specs.declared.Why.{Why}
 use Rattle.tables.specs.Tables.{Tables, sized, node_of, channel_of}
-use Rattle.lent.specs.declared.Checked.TheVariants.{Sound, Refused}
-use Rattle.lent.specs.declared.Checked.{Checked}
+use Rattle.refusal.specs.declared.Refusal.{Refusal}
 
 -- what a check says: 0, or 1, or 2 or 18 with the pair
-abbrev pub said_check : Checked → Why
-said_check Sound = why 0 0 0
-said_check (Refused r) = why_of r
+abbrev pub said_check : Result ⊤ Refusal → Why
+said_check (Ok _) = why 0 0 0
+said_check (Err r) = why_of r
 
 -- ---- the pairs
 

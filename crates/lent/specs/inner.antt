@@ -1,2 +1,2 @@
--- Definitions for leaf functions and proofs: no public promise cites them. What a search keeps.
-pub mod Kept
+-- Definitions for leaf functions and proofs: no public promise cites them. Looks at a network in lent tables.
+pub mod Looks

@@ -22,12 +22,10 @@ pub fn fill(n: u32, nodes: &mut [u32], channels: &mut [u32])
 {
     tables::cells::fill_zero(nodes);
     tables::cells::fill_zero(channels);
-    let mut u = 1;
-    while u <= n {
+    for u in 1..n + 1 {
         let h = fresh_height(u);
         let a = tables::rows::node_start(n, u);
         let e = a + tables::rows::row_width(n);
         tables::rows::put_height(n, &mut nodes[a..e], u, h);
-        u += 1;
     }
 }

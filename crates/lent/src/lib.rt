@@ -2,35 +2,19 @@
 // No function requires anything: what cannot be done is refused, and nothing lent changes.
 #![tactic(auto)]
 
-ghost use Rattle.std.specs.Prelude.{cond, ◌≡◌, eqb};
+ghost use Rattle.std.specs.Prelude.{◌≡◌};
 ghost use Rattle.refusal.specs.Outcome.{outcome};
-ghost use Rattle.refusal.specs.Refusal.{why};
 ghost use Rattle.tables.specs.Tables.{tables, sized};
 ghost use Rattle.lent.specs.Check.{said_check, check_on};
 ghost use Rattle.lent.specs.Fresh.{fresh_on};
 
-use pairs::Late;
 use refusal::Refusal;
 
 mod filling;
 mod search;
+mod sound;
 
-// What a check answers: nothing at fault (0), or why not: sizes (1), the first pair at fault (2), the first untimely pair (18).
-#[derive(Clone, Copy)]
-pub enum Checked {
-    Sound,
-    Refused(Refusal),
-}
-
-// What a search that met no fault says: the first untimely pair (18), or nothing.
-pub fn unless_late(late: Late) -> Checked
-    ensures { said_check result ≡ cond (eqb late.u 0) (why 0 0 0) (why 18 late.u late.v) }
-{
-    if late.u == 0 {
-        return Checked::Sound;
-    }
-    Checked::Refused(Refusal::Untimely(late.u, late.v))
-}
+pub use sound::Sound;
 
 // n from 1 to 16, and the tables of the lengths for n.
 pub fn is_sized(n: u32, nodes: &[u32], channels: &[u32]) -> bool
@@ -46,22 +30,22 @@ pub fn is_sized(n: u32, nodes: &[u32], channels: &[u32]) -> bool
 }
 
 // Refusals 1, 2 and 18, for any tables whatever.
-pub fn check(n: u32, nodes: &[u32], channels: &[u32]) -> Checked
+pub fn check(n: u32, nodes: &[u32], channels: &[u32]) -> Result<(), Refusal>
     ensures { said_check result ≡ check_on n (tables nodes.now channels.now) }
 {
     if is_sized(n, nodes, channels) {
         return search::contents(n, nodes, channels);
     }
-    Checked::Refused(Refusal::Sizes)
+    Err(Refusal::Sizes)
 }
 
 // The fresh network of n nodes.
-pub fn fresh(n: u32, nodes: &mut [u32], channels: &mut [u32]) -> Checked
+pub fn fresh(n: u32, nodes: &mut [u32], channels: &mut [u32]) -> Result<(), Refusal>
     ensures { outcome (said_check result) (tables nodes.new channels.new) ≡ fresh_on n (tables nodes.old channels.old) }
 {
     if is_sized(n, nodes, channels) {
         filling::fill(n, nodes, channels);
-        return Checked::Sound;
+        return Ok(());
     }
-    Checked::Refused(Refusal::Sizes)
+    Err(Refusal::Sizes)
 }

@@ -1,7 +1,7 @@
 -- What the code finds of a pair: a node in a word, the own height, a view, the messages of a cell one by one, the zero words after them.
 use Prim.Native.Nat.{ℕ, zero, suc, ◌+◌, ◌-◌, ◌*◌, ◌/◌, ◌%◌, ◌^◌, ◌≤◌, ◌<◌}
 use native.Mathlib.Omega.{arith}
-use mathlib.Core.Bool.{Bool, true, false, not, ◌&&◌, ◌||◌, and-true, and-false, or-true, or-false}
+use mathlib.Core.Bool.{Bool, true, false, ◌&&◌, ◌||◌, and-true, and-false, or-true, or-false}
 use mathlib.Core.List.{List, [], ◌∷◌}
 use mathlib.Core.Path.{◌≡◌, refl, sym, ap, ◌∙◌}
 use lib.Dec.{eqb}
@@ -24,11 +24,10 @@ use Rattle.tables.specs.Row.{clock_in, neighbors_in, forming_in, height_in}
 use Rattle.tables.specs.Rows.{part}
 use Rattle.tables.proofs.WordRuns.{zero-at}
 use Rattle.pairs.specs.Pair.{own_sound, view_sound, channel_sound, pair_sound, timely_in}
-use Rattle.pairs.specs.inner.Findings.{finding, passes, joined, is_faulty, is_timely, kept_or}
+use Rattle.pairs.specs.inner.Findings.{finding, passes, joined}
 use Rattle.pairs.specs.inner.ReadCell.{ReadCell}
 use Rattle.pairs.specs.declared.Finding.TheVariants.{Good, Untimely, Faulty}
 use Rattle.pairs.specs.declared.Finding.{Finding}
-use Rattle.pairs.specs.declared.Late.{Late}
 
 -- ---- a node in a word
 
@@ -80,24 +79,21 @@ both_found true false true false = refl
 both_found true false false y = refl
 both_found false t x y = refl
 
--- which pair is kept
-module _ (kept : Late) (timely : Bool) (u v : ℕ) where
-  pub kept-first : (timely || not (eqb kept.u 0)) ≡ true → kept ≡ kept_or kept timely u v
-  kept-first e = rw e
-
-  pub kept_second : (timely || not (eqb kept.u 0)) ≡ false → record { u = u; v = v } ≡ kept_or kept timely u v
-  kept_second e = rw e
-
 -- what is found tells both tests
-pub found-faulty : {f : Finding} (s t : Bool) → f ≡ finding s t → is_faulty f ≡ true → s ≡ false
-found-faulty true true e h = clash h (rw e)
-found-faulty true false e h = clash h (rw e)
+pub found-faulty : {f : Finding} (s t : Bool) → f ≡ finding s t → f ≡ Faulty → s ≡ false
+found-faulty true true e h = cc
+found-faulty true false e h = cc
 found-faulty false t e h = refl
 
-pub found-sound : {f : Finding} (s t : Bool) → f ≡ finding s t → is_faulty f ≡ false → (s ≡ true) × (is_timely f ≡ t)
-found-sound true true e h = (refl, rw e)
-found-sound true false e h = (refl, rw e)
-found-sound false t e h = clash (rw e) h
+pub found-good : {f : Finding} (s t : Bool) → f ≡ finding s t → f ≡ Good → (s ≡ true) × (t ≡ true)
+found-good true true e h = (refl, refl)
+found-good true false e h = cc
+found-good false t e h = cc
+
+pub found-untimely : {f : Finding} (s t : Bool) → f ≡ finding s t → f ≡ Untimely → (s ≡ true) × (t ≡ false)
+found-untimely true true e h = cc
+found-untimely true false e h = (refl, refl)
+found-untimely false t e h = cc
 
 -- ---- the own height
 

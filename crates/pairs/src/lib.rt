@@ -13,10 +13,10 @@ ghost use Rattle.tables.specs.Cell.{slot, queue, message_at, messages_at, all_ze
 ghost use Rattle.tables.specs.Row.{clock_in, neighbors_in, forming_in, height_in};
 ghost use Rattle.tables.specs.Tables.{row_head, width, message_size, cell_width};
 ghost use Rattle.pairs.specs.Pair.{own_sound, view_sound, channel_sound, pair_sound, timely_in};
-ghost use Rattle.pairs.specs.inner.Findings.{finding, joined, is_faulty, is_timely, kept_or, passes};
+ghost use Rattle.pairs.specs.inner.Findings.{finding, joined, passes};
 ghost use Rattle.pairs.specs.inner.ReadCell.{ReadCell};
 
-#[derive(Clone, Copy)]
+#[derive(Clone, Copy, PartialEq, Eq)]
 pub enum Finding {
     Good,
     Untimely, // no rule is broken, and a time is above what it may be (18)
@@ -36,44 +36,6 @@ pub fn both(a: Finding, b: Finding) -> Finding
             Finding::Untimely => Finding::Untimely,
         },
     }
-}
-
-pub fn is_faulty(f: Finding) -> bool
-    ensures { result ≡ is_faulty f }
-{
-    match f {
-        Finding::Good => false,
-        Finding::Untimely => false,
-        Finding::Faulty => true,
-    }
-}
-
-// Not untimely: what is at fault is asked for first.
-pub fn is_timely(f: Finding) -> bool
-    ensures { result ≡ is_timely f }
-{
-    match f {
-        Finding::Good => true,
-        Finding::Untimely => false,
-        Finding::Faulty => true,
-    }
-}
-
-// The first untimely pair of a search; 0 0 while there is none.
-#[derive(Clone, Copy)]
-pub struct Late {
-    pub u: u32,
-    pub v: u32,
-}
-
-// The pair that was kept, or else u, v if it is untimely.
-pub fn kept_or(kept: Late, timely: bool, u: u32, v: u32) -> Late
-    ensures { result ≡ kept_or kept timely u v }
-{
-    if timely | (kept.u != 0) {
-        return kept;
-    }
-    Late { u, v }
 }
 
 // Node v is in the set, whatever the word's other bits are.
@@ -147,20 +109,20 @@ fn message_passes(n: u32, u: u32, clock: u32, cell: &[u32], at: usize) -> bool
     holds::height_within(n, u, stamp, cell, at)
 }
 
-// The first `count` messages of a cell pass both tests. The loop goes to the fixed end, so that the compiler writes out its turns.
+// The first `count` messages of a cell pass both tests. The loop goes to the fixed end, so that the compiler writes out its turns,
+// and it stays a call of its own, so that they have the registers to themselves.
+#[inline(never)]
 fn all_pass(n: u32, u: u32, clock: u32, cell: &[u32], count: usize) -> bool
     requires { (count ≤ capacity) × (length cell.now ≡ cell_width) }
     ensures { result ≡ all (passes n u clock) (messages_at count cell.now (slot 0)) }
 {
-    let mut k = 0;
-    while k < tables::CAPACITY {
+    for k in 0..tables::CAPACITY {
         if k == count {
             return true;
         }
         if !message_passes(n, u, clock, cell, tables::cells::slot_start(k)) {
             return false;
         }
-        k += 1;
     }
     true
 }
@@ -170,12 +132,10 @@ fn all_hold(n: u32, u: u32, cell: &[u32], count: usize) -> bool
     requires { (count ≤ capacity) × (length cell.now ≡ cell_width) }
     ensures { result ≡ all (message_holds n u) (messages_at count cell.now (slot 0)) }
 {
-    let mut k = 0;
-    while k < count {
+    for k in 0..count {
         if !holds::height_holds(n, u, cell, tables::cells::slot_start(k)) {
             return false;
         }
-        k += 1;
     }
     true
 }

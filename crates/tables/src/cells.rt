@@ -83,10 +83,8 @@ pub fn take_first(cell: &mut [u32])
     ensures { cell.new ≡ taken cell.old }
 {
     let waiting = cell[0];
-    let mut i = 1;
-    while i < LAST_SLOT {
+    for i in 1..LAST_SLOT {
         cell[i] = cell[i + MESSAGE_SIZE];
-        i += 1;
     }
     fill_zero(&mut cell[LAST_SLOT..CELL_WIDTH]);
     cell[0] = waiting - 1;
@@ -104,11 +102,7 @@ pub fn clear(cell: &mut [u32])
 pub fn fill_zero(words: &mut [u32])
     ensures { words.new ≡ replicate (length words.old) 0 }
 {
-    let mut i = 0;
-    while i < words.len() {
-        words[i] = 0;
-        i += 1;
-    }
+    words.fill(0);
 }
 
 // Whether every word is zero. All words are joined and looked at once, so that the compiler can take several at a time.
@@ -116,10 +110,8 @@ pub fn all_zero(words: &[u32]) -> bool
     ensures { result ≡ all_zero words.now }
 {
     let mut seen: u32 = 0;
-    let mut i = 0;
-    while i < words.len() {
-        seen |= words[i];
-        i += 1;
+    for word in words {
+        seen |= *word;
     }
     seen == 0
 }

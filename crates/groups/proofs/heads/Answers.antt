@@ -3,16 +3,16 @@ use mathlib.Core.Path.{ap, ◌∙◌}
 use Prim.Native.Nat.{ℕ}
 use Rattle.refusal.specs.Outcome.{accepted}
 use Rattle.groups.specs.Heads.{heads_on}
-use Rattle.groups.proofs.AnswerLaws.{checked-passes, checked_refused, checked-sound}
+use Rattle.std.proofs.lemmas.Result.{err_from_is_err_and}
+use Rattle.groups.proofs.AnswerLaws.{checked_refused, checked-sound}
 use Rattle.groups.proofs.heads.Goals as goal
 
-pub heads-requires : goal.heads-requires
-heads-requires c = checked-passes _ _ c.check.ensures c.in-Sound.is
-
-pub returns-in-Sound : goal.returns-in-Sound
+pub returns : goal.returns
 unfolding heads_on
-returns-in-Sound c = ap (λ (s : ℕ). accepted s) c.heads.ensures ∙ checked-sound _ _ c.check.ensures _ _ c.in-Sound.is
+returns c = ap (λ (s : ℕ). accepted s) c.heads.ensures ∙ checked-sound _ _ c.check.ensures _ _ c.in_ok-check.was
 
-pub returns-in-Refused : goal.returns-in-Refused
+pub returns-in_err-check : goal.returns-in_err-check
 unfolding heads_on
-returns-in-Refused c = checked_refused _ _ c.check.ensures _ _ c.in-Refused.is
+returns-in_err-check c =
+    let p = err_from_is_err_and c.from_residual.result c.from_residual.ensures.1 in
+    rw (p.1, p.2) (checked_refused _ _ c.check.ensures _ _ c.in_err-check.was)

@@ -4,16 +4,16 @@ use mathlib.Core.Bool.{Bool}
 use Rattle.nodeset.specs.NodeSet.{digit}
 use Rattle.refusal.specs.Outcome.{accepted}
 use Rattle.groups.specs.Quiet.{quiet_on}
-use Rattle.groups.proofs.AnswerLaws.{checked-passes, checked_refused, checked-sound}
+use Rattle.std.proofs.lemmas.Result.{err_from_is_err_and}
+use Rattle.groups.proofs.AnswerLaws.{checked_refused, checked-sound}
 use Rattle.groups.proofs.is_quiet.Goals as goal
 
-pub is_quiet-requires : goal.is_quiet-requires
-is_quiet-requires c = checked-passes _ _ c.check.ensures c.in-Sound.is
-
-pub returns-in-Sound : goal.returns-in-Sound
+pub returns : goal.returns
 unfolding quiet_on
-returns-in-Sound c = ap (λ (b : Bool). accepted (digit b)) c.is_quiet.ensures ∙ checked-sound _ _ c.check.ensures _ _ c.in-Sound.is
+returns c = ap (λ (b : Bool). accepted (digit b)) c.is_quiet.ensures ∙ checked-sound _ _ c.check.ensures _ _ c.in_ok-check.was
 
-pub returns-in-Refused : goal.returns-in-Refused
+pub returns-in_err-check : goal.returns-in_err-check
 unfolding quiet_on
-returns-in-Refused c = checked_refused _ _ c.check.ensures _ _ c.in-Refused.is
+returns-in_err-check c =
+    let p = err_from_is_err_and c.from_residual.result c.from_residual.ensures.1 in
+    rw (p.1, p.2) (checked_refused _ _ c.check.ensures _ _ c.in_err-check.was)

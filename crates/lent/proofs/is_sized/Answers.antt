@@ -5,9 +5,6 @@ use Rattle.tables.specs.Tables.{sized}
 use Rattle.tables.proofs.RowsLaws.{product_le}
 use Rattle.lent.proofs.is_sized.Goals as goal
 
-pub row_width-requires : goal.row_width-requires
-row_width-requires c = c.if-n-le16.true
-
 pub overflow_mul-result : goal.overflow_mul-result
 overflow_mul-result c =
     let n = c.args.n in

@@ -17,12 +17,6 @@ returns-then-not-height_holds c =
     (holds-by-height a.n a.u a.cell.now (1 + l.k * 8) (omega (arith, c.type_inv.cell (1 + l.k * 8 + 7)))
     ∙ (rw c.slot_start.ensures at (sym c.height_holds.ensures ∙ not-true _ c.if-not-height_holds.true-raw))))
 
-pub overflow_add-k : goal.overflow_add-k
-overflow_add-k c = omega arith
-
-pub loop-k-smaller : goal.loop-k-smaller
-loop-k-smaller c = omega arith
-
 pub loop-k-preserved : goal.loop-k-preserved
 loop-k-preserved c =
     let l = c.loop-k in

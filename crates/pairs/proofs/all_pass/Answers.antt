@@ -17,14 +17,6 @@ returns-then-not-message_passes c =
     (messages-fail _ _ _ l.k l.invariant (omega (arith, l.invariant.inside, c.if-k-count.false))
     (rw c.slot_start.ensures at (sym c.message_passes.ensures ∙ not-true _ c.if-not-message_passes.true-raw)))
 
-pub overflow_add-k : goal.overflow_add-k
-overflow_add-k c = omega arith
-
-pub loop-k-smaller : goal.loop-k-smaller
-loop-k-smaller c =
-    let l = c.loop-k in
-    omega (arith, l.invariant.inside, c.if-k-count.false)
-
 pub loop-k-preserved : goal.loop-k-preserved
 loop-k-preserved c =
     let l = c.loop-k in

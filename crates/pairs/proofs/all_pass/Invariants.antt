@@ -1,11 +1,7 @@
--- `pairs::all_pass` meets its contract. The invariant: what is to be answered is what the messages from k on are. The measure is how many are left.
-use Prim.Native.Nat.{◌-◌}
+-- `pairs::all_pass` meets its contract. The invariant: what is to be answered is what the messages from k on are.
 use Rattle.pairs.specs.inner.Findings.{passes}
 use Rattle.pairs.proofs.PairLaws.{MessagesFrom}
 use Rattle.pairs.proofs.all_pass.Given as goal
 
 abbrev pub invariant-loop-k : goal.invariant-loop-k
 invariant-loop-k l = MessagesFrom (passes l.n l.u l.clock) l.cell l.count l.k
-
-abbrev pub decreases-loop-k : goal.decreases-loop-k
-decreases-loop-k l = l.count - l.k

@@ -7,9 +7,6 @@ returns-then-u-v c =
     let a = c.args in
     pair-own a.n a.u a.v a.row.now a.cell.now c.if-u-v.true c.own.ensures
 
-pub read_channel-requires : goal.read_channel-requires
-read_channel-requires c = (c.requires.0, c.requires.2, c.requires.3, c.requires.4, c.requires.5)
-
 pub returns : goal.returns
 returns c =
     let a = c.args in

@@ -1,5 +1,4 @@
--- `groups::walks::fill_ups` meets its contract: the sets of the nodes below w are filled in; the measure is how many are left.
-use Prim.Native.Nat.{◌+◌, ◌-◌}
+-- `groups::walks::fill_ups` meets its contract: the sets of the nodes below w are filled in.
 use Rattle.protocol.specs.Network.{up_to}
 use Rattle.tables.specs.Load.{load}
 use Rattle.tables.specs.Tables.{tables}
@@ -7,7 +6,4 @@ use Rattle.groups.proofs.LinkLaws.{Filled}
 use Rattle.groups.proofs.walks.fill_ups.Given as goal
 
 abbrev pub invariant-loop-w : goal.invariant-loop-w
-invariant-loop-w l = Filled l.n (up_to (load l.n (tables l.nodes l.channels))) l.w l.ups
-
-abbrev pub decreases-loop-w : goal.decreases-loop-w
-decreases-loop-w l = l.n + 1 - l.w
+invariant-loop-w l = Filled l.plot.n (up_to (load l.plot.n (tables l.plot.nodes.now l.plot.channels.now))) l.w l.ups

@@ -4,16 +4,10 @@ use Rattle.groups.proofs.LoopLaws.{gather-start, gather-next, gather-done}
 use Rattle.groups.proofs.words.all_nodes.Goals as goal
 
 pub loop-w-init : goal.loop-w-init
-loop-w-init c = gather-start _ _
-
-pub overflow_add-w : goal.overflow_add-w
-overflow_add-w c = omega (arith, c.requires)
-
-pub loop-w-smaller : goal.loop-w-smaller
-loop-w-smaller c = omega arith
+loop-w-init c = gather-start _
 
 pub loop-w-preserved : goal.loop-w-preserved
-loop-w-preserved c = rw c.add_if-out.ensures (gather-next _ _ _ _ _ c.loop-w.invariant c.loop-w-test.true refl)
+loop-w-preserved c = rw c.add_if-out.ensures (gather-next _ _ _ _ c.loop-w.invariant refl)
 
 pub returns : goal.returns
-returns c = gather-done _ _ _ _ c.loop-w.invariant c.loop-w-test.false c.requires
+returns c = gather-done _ _ _ _ c.loop-w.invariant (omega arith) c.requires

@@ -1,5 +1,4 @@
--- `groups::words::fill_links` meets its contract: the sets of the nodes below w are filled in; the measure is how many are left.
-use Prim.Native.Nat.{◌+◌, ◌-◌}
+-- `groups::words::fill_links` meets its contract: the sets of the nodes below w are filled in.
 use Rattle.groups.specs.Groups.{linked}
 use Rattle.groups.specs.inner.Words.{in_words}
 use Rattle.groups.proofs.LinkLaws.{Filled}
@@ -7,6 +6,3 @@ use Rattle.groups.proofs.words.fill_links.Given as goal
 
 abbrev pub invariant-loop-w : goal.invariant-loop-w
 invariant-loop-w l = Filled l.n (linked (in_words l.ups)) l.w l.near
-
-abbrev pub decreases-loop-w : goal.decreases-loop-w
-decreases-loop-w l = l.n + 1 - l.w

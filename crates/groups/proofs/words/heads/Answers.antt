@@ -3,9 +3,6 @@ use native.Mathlib.Omega.{arith}
 use Rattle.groups.proofs.HeadLaws.{heading-start, heading-node, heading-next, heading-less, heading-done}
 use Rattle.groups.proofs.words.heads.Goals as goal
 
-pub all_nodes-left-requires : goal.all_nodes-left-requires
-all_nodes-left-requires c = c.requires.few
-
 pub loop-left-init : goal.loop-left-init
 loop-left-init c = heading-start _ _ c.requires _ c.all_nodes-left.ensures
 

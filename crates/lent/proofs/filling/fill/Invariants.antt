@@ -1,11 +1,6 @@
 -- `lent::filling::fill` meets its contract. The invariant: the rows below u are written, the others are zero.
--- The measure is how many rows are left.
-use Prim.Native.Nat.{◌+◌, ◌-◌}
 use Rattle.lent.proofs.FilledLaws.{FilledTo}
 use Rattle.lent.proofs.filling.fill.Given as goal
 
 abbrev pub invariant-loop-u : goal.invariant-loop-u
 invariant-loop-u l = FilledTo l.n l.u l.nodes
-
-abbrev pub decreases-loop-u : goal.decreases-loop-u
-decreases-loop-u l = l.n + 1 - l.u

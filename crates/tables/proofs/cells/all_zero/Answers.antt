@@ -1,5 +1,5 @@
 use Prim.Native.Nat.{ℕ, zero, suc, ◌+◌, ◌≤◌, ◌<◌}
-use mathlib.Core.Path.{◌≡◌, refl, ap, sym, ◌∙◌}
+use mathlib.Core.Path.{◌≡◌, ap, sym, ◌∙◌}
 use mathlib.Core.Bool.{Bool, false, ◌&&◌, and-true}
 use mathlib.Core.List.{List}
 use native.Mathlib.Numerals.{add-one}
@@ -32,11 +32,8 @@ done : (ws : List ℕ) (s i : ℕ) → length ws ≤ i → all_zero ws ≡ (eqb 
 unfolding all_zero
 done ws s i h e = sym (e ∙ ap (λ (l : List ℕ). eqb s 0 && all_zero l) (drop_of_length-le ws h) ∙ and-true (eqb s 0))
 
-pub loop-i-init : goal.loop-i-init
-loop-i-init c = (omega arith, refl)
-
-pub loop-i-preserved : goal.loop-i-preserved
-loop-i-preserved c = (omega arith, next _ c.loop-i.seen _ c.loop-i-test.true c.loop-i.invariant.1)
+pub loop-word-preserved : goal.loop-word-preserved
+loop-word-preserved c = next _ c.loop-word.seen _ c.loop-word-test.true c.loop-word.invariant
 
 pub returns : goal.returns
-returns c = done _ c.loop-i.seen _ c.loop-i-test.false c.loop-i.invariant.1
+returns c = done _ c.loop-word.seen _ c.loop-word-test.false c.loop-word.invariant

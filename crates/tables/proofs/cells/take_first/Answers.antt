@@ -2,7 +2,7 @@ use Prim.Native.Nat.{ℕ, zero, suc, ◌+◌, ◌-◌, ◌≤◌, ◌<◌}
 use mathlib.Core.Path.{◌≡◌, refl, ap, sym, ◌∙◌}
 use mathlib.Core.List.{List, [], ◌∷◌, ◌++◌}
 use native.Mathlib.Omega.{arith}
-use lib.ListN.{length, get_or, set, take, drop, replicate, length-take, length-drop, length-set, drop_of_length-le}
+use lib.ListN.{length, get_or, set, take, drop, replicate, length-take, length-drop, drop_of_length-le}
 use lib.Seq.{paste-zero, paste-suc, length-paste, take-paste, drop-paste, get_or-drop, take_all}
 use Rattle.tables.specs.inner.Written.{taken}
 use Rattle.tables.proofs.cells.take_first.Invariants.{moved}
@@ -63,24 +63,13 @@ module _ (cell : List ℕ) (full : length cell ≡ 65) where
       rw (front, z, eight, none) (counted cell (get_or cell 0 0 - 1) (omega arith))
 
 pub loop-i-init : goal.loop-i-init
-loop-i-init c =
-    (omega arith, omega arith, paste-zero _ 1 (drop 9 c.args.cell.now), c.requires.0)
+loop-i-init c = paste-zero _ 1 (drop 9 c.args.cell.now)
 
 pub loop-i-preserved : goal.loop-i-preserved
-loop-i-preserved c =
-    let l = c.loop-i in (
-      omega arith,
-      omega arith,
-      turn c.args.cell.now c.requires.0 l.i l.invariant.0 c.loop-i-test.true l.invariant.2,
-      simp length-set l.invariant.3,
-    )
-
-pub shape_of-cell : goal.shape_of-cell
-shape_of-cell c = simp length-set (omega arith)
+loop-i-preserved c = turn c.args.cell.now c.requires.0 c.loop-i.i (omega arith) c.loop-i-test.true c.loop-i.invariant
 
 pub returns : goal.returns
 returns c =
-    let l = c.loop-i in
-    let last : l.i - 1 ≡ 56 = omega arith in
-    freed c.args.cell.now c.requires.0 _ _ (l.invariant.2 ∙ ap (λ (k : ℕ). moved c.args.cell.now k) last)
+    let last : c.loop-i.i - 1 ≡ 56 = omega arith in
+    freed c.args.cell.now c.requires.0 _ _ (c.loop-i.invariant ∙ ap (λ (k : ℕ). moved c.args.cell.now k) last)
     c.fill_zero.ensures
