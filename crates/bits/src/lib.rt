@@ -21,8 +21,7 @@ pub fn run(at: usize, left: usize) -> usize
     requires { 0 < left }
     ensures { (0 < result) × ((result ≤ left) × (at % 8 + result ≤ 8)) }
 {
-    let room = 8 - at % 8;
-    if left < room { left } else { room }
+    left.min(8 - at % 8)
 }
 
 // The field of `width` bits at a bit place, the most significant bit first: out of eight bytes where these are there.
@@ -73,7 +72,7 @@ pub fn put(buf: &mut [u8], at: usize, width: usize, value: u32)
     ensures { buf.new ≡ written buf.old at (bits width value) }
 {
     if width == 32 {
-        put_bytes(buf, at, 4, long(value));
+        put_bytes(buf, at, 4, value as u64);
         return;
     }
     put_by_bytes(buf, at, width, value);
@@ -119,18 +118,6 @@ fn put_first(buf: &mut [u8], i: usize, n: usize, value: u32)
     buf[i] = spliced(buf[i], 0, n, digits(value, n, 0));
 }
 
-fn wide(w: u8) -> usize
-    ensures { result ≡ w }
-{
-    w as usize
-}
-
-fn long(v: u32) -> u64
-    ensures { result ≡ v }
-{
-    v as u64
-}
-
 // The low `width` bits of a number of 64 go to a bit place.
 fn put_long(buf: &mut [u8], at: usize, width: usize, value: u64)
     requires { (width ≤ 64) × ((at + width < 2 ^ 32) × (at + width ≤ 8 * length buf.old)) }
@@ -163,10 +150,9 @@ fn pack(widths: &[u8], values: &[u32], full: &mut [u64]) -> Packed
     let mut held: u64 = 0;
     let mut count: usize = 0;
     let mut j: usize = 0;
-    let mut k: usize = 0;
-    while k < widths.len() {
-        let w = wide(widths[k]);
-        let v = long(values[k]);
+    for k in 0..widths.len() {
+        let w = widths[k] as usize;
+        let v = values[k] as u64;
         if count + w < 64 {
             held = words::joined(held, v, w);
             count += w;
@@ -177,7 +163,6 @@ fn pack(widths: &[u8], values: &[u32], full: &mut [u64]) -> Packed
             held = v % (1u64 << rest);
             count = rest;
         }
-        k += 1;
     }
     Packed {
         full: j,
@@ -192,18 +177,10 @@ fn put_packed(buf: &mut [u8], at: usize, full: &[u64], n: usize, count: usize, h
         × (at + (64 * n + count) < 2 ^ 32) × (at + (64 * n + count) ≤ 8 * length buf.old) }
     ensures { buf.new ≡ written buf.old at (word_bits n full.now ++ bits count held) }
 {
-    let mut j: usize = 0;
-    while j < n {
+    for j in 0..n {
         put_bytes(buf, at + 64 * j, 8, full[j]);
-        j += 1;
     }
     put_long(buf, at + 64 * n, count, held);
-}
-
-fn no_words() -> [u64; 4]
-    ensures { length result ≡ 4 }
-{
-    [0; 4]
 }
 
 // Values go to fields end to end from a bit place on, each at its width.
@@ -211,7 +188,7 @@ pub fn put_fields(buf: &mut [u8], at: usize, widths: &[u8], values: &[u32])
     requires { RoomFor buf.old at widths.now × (length widths.now ≡ length values.now) × (length widths.now ≤ 8) }
     ensures { buf.new ≡ written buf.old at (spread widths.now values.now) }
 {
-    let mut full = no_words();
+    let mut full = [0; 4];
     let p = pack(widths, values, &mut full);
     put_packed(buf, at, &full, p.full, p.count, p.held);
 }
@@ -237,9 +214,8 @@ fn get_inside(bytes: &[u8], at: usize, widths: &[u8], values: &mut [u32])
     let mut start = at;
     let mut seen = words::load_at(bytes, at);
     let mut used: usize = 0;
-    let mut k: usize = 0;
-    while k < widths.len() {
-        let w = wide(widths[k]);
+    for k in 0..widths.len() {
+        let w = widths[k] as usize;
         if used + w < 64 {
             values[k] = words::cut(seen, used, w);
             used += w;
@@ -249,7 +225,6 @@ fn get_inside(bytes: &[u8], at: usize, widths: &[u8], values: &mut [u32])
             values[k] = words::cut(seen, 0, w);
             used = w;
         }
-        k += 1;
     }
 }
 
@@ -259,11 +234,9 @@ fn get_near_end(bytes: &[u8], at: usize, widths: &[u8], values: &mut [u32])
     ensures { values.new ≡ gathered widths.now (drop at (unpacked bytes.now)) }
 {
     let mut place = at;
-    let mut k: usize = 0;
-    while k < widths.len() {
-        let w = wide(widths[k]);
+    for k in 0..widths.len() {
+        let w = widths[k] as usize;
         values[k] = get(bytes, place, w);
         place += w;
-        k += 1;
     }
 }

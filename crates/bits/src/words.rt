@@ -4,22 +4,14 @@ ghost use Rattle.std.specs.Prelude.{◌≡◌, ◌+◌, ◌-◌, ◌*◌, ◌/�
 ghost use Rattle.bits.specs.Bits.{bits, field};
 ghost use Rattle.bits.specs.inner.Written.{written};
 
-fn long(b: u8) -> u64
-    ensures { result ≡ b }
-{
-    b as u64
-}
-
 // The eight bytes from index i on.
 pub fn load(bytes: &[u8], i: usize) -> u64
     requires { i + 8 ≤ length bytes.now }
     ensures { result ≡ field bytes.now (8 * i) 64 }
 {
     let mut v: u64 = 0;
-    let mut k: usize = 0;
-    while k < 8 {
-        v = (v << 8) + long(bytes[i + k]);
-        k += 1;
+    for k in 0..8 {
+        v = (v << 8) + bytes[i + k] as u64;
     }
     v
 }
@@ -37,10 +29,8 @@ pub fn store(buf: &mut [u8], i: usize, m: usize, v: u64)
     requires { (m ≤ 8) × (i + m ≤ length buf.old) }
     ensures { buf.new ≡ written buf.old (8 * i) (bits (8 * m) v) }
 {
-    let mut k: usize = 0;
-    while k < m {
+    for k in 0..m {
         buf[i + k] = byte_at(v, 8 * (m - k - 1));
-        k += 1;
     }
 }
 
@@ -60,7 +50,7 @@ pub fn load_at(bytes: &[u8], at: usize) -> u64
     let i = at / 8;
     let off = at % 8;
     let first = load(bytes, i);
-    let last = long(bytes[i + 8]);
+    let last = bytes[i + 8] as u64;
     (first << off) + (last >> (8 - off))
 }
 

@@ -65,13 +65,11 @@ pub fn put_records(
     ensures { buf.new ≡ written buf.old at (records_bits depth size count words.now) }
 {
     let mut place = at;
-    let mut k: usize = 0;
-    while k < count {
+    for k in 0..count {
         let a = k * size;
         let e = a + size;
         put_record(buf, place, depth, &words[a..e]);
         place += width;
-        k += 1;
     }
 }
 
@@ -90,12 +88,10 @@ pub fn get_records(
         ≡ records_from depth size width count (unpacked bytes.now) at ++ drop (count * size) words.old }
 {
     let mut place = at;
-    let mut k: usize = 0;
-    while k < count {
+    for k in 0..count {
         let a = k * size;
         let e = a + size;
         get_record(bytes, place, depth, &mut words[a..e]);
         place += width;
-        k += 1;
     }
 }

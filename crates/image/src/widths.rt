@@ -25,10 +25,8 @@ pub fn place(depth: u8, k: usize) -> usize
 {
     let w = fields(depth);
     let mut end: usize = 0;
-    let mut i: usize = 0;
-    while i < k {
+    for i in 0..k {
         end += w[i] as usize;
-        i += 1;
     }
     end
 }

@@ -1,4 +1,3 @@
 -- What the functions of this crate show of their answers.
 pub mod FieldLaws
-pub mod Held
 pub mod RecordLaws

@@ -3,19 +3,12 @@
 use Rattle.std.specs.Prelude.{ℕ, ◌+◌, ◌*◌, ◌^◌, Bool, cond, not, ◌&&◌, ◌||◌, List, leb, ltb, length}
 use Rattle.bits.specs.Bits.{field}
 use Rattle.refusal.specs.Outcome.{Answered, Outcome, accepted, outcome, refused_with}
-use Rattle.refusal.specs.Refusal.{why, why_of}
+use Rattle.refusal.specs.Refusal.{why}
 use Rattle.image_reader.specs.declared.Reader.{Reader}
-use Rattle.image_reader.specs.declared.Taken.TheVariants.{Field, Refused}
-use Rattle.image_reader.specs.declared.Taken.{Taken}
 
 -- w bits from a place on stand inside the bytes, and the place behind them is a number of 64 bits
 unfoldable pub stands_in : List ℕ → ℕ → ℕ → Bool
 stands_in xs at w = ltb (at + w) (2 ^ 64) && leb (at + w) (8 * length xs)
-
--- 0 and the field's value, or 12
-abbrev pub said_taken : Taken → Answered ℕ
-said_taken (Field v) = accepted v
-said_taken (Refused r) = refused_with 0 (why_of r)
 
 -- a field of at most 32 bits: what is said, and the place afterwards
 unfoldable pub take_on : List ℕ → ℕ → ℕ → Outcome (Answered ℕ) ℕ

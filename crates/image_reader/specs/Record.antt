@@ -5,21 +5,14 @@ use Rattle.bits.specs.Bits.{unpacked}
 use Rattle.image.specs.Places.{field_in, heights_from}
 use Rattle.image.specs.Widths.{depth_width, node_width}
 use Rattle.refusal.specs.Outcome.{Answered, Outcome, accepted, outcome, refused_with}
-use Rattle.refusal.specs.Refusal.{why, why_of}
+use Rattle.refusal.specs.Refusal.{why}
 use Rattle.refusal.specs.declared.Why.{Why}
 use Rattle.height.specs.Words.{height_size}
 use Rattle.image_reader.specs.Fields.{stands_in}
-use Rattle.image_reader.specs.declared.NodeRead.TheVariants.{Found, Refused}
-use Rattle.image_reader.specs.declared.NodeRead.{NodeRead}
 use Rattle.image_reader.specs.declared.NodeRecord.{NodeRecord}
 
 abbrev pub no_node : NodeRecord
 no_node = record { clock = record { 0 = 0 }; neighbors = 0; forming = 0 }
-
--- 0 with the clock and both sets, or the refusal
-abbrev pub said_node : NodeRead → Answered NodeRecord
-said_node (Found r) = accepted r
-said_node (Refused r) = refused_with no_node (why_of r)
 
 abbrev pub unread : Why → List ℕ → Outcome (Answered NodeRecord) (List ℕ)
 unread w row = outcome (refused_with no_node w) row

@@ -1,29 +1,20 @@
 // Fields at a bit place of an image's bytes, of any length: the work of `take`.
 // Every function but `field_at` takes anything.
-ghost use Rattle.std.specs.Prelude.{◌≡◌, ◌+◌, ◌*◌, ◌≤◌, length};
+ghost use Rattle.std.specs.Prelude.{◌≡◌, ◌+◌, ◌*◌, ◌≤◌, length, IfOk, ◌^◌, ◌<◌};
 ghost use Rattle.bits.specs.Bits.{field};
-ghost use Rattle.refusal.specs.Outcome.{outcome};
-ghost use Rattle.image_reader.specs.Fields.{stands_in, said_taken, take_on};
+ghost use Rattle.refusal.specs.Outcome.{said_as};
+ghost use Rattle.image_reader.specs.Fields.{stands_in, take_on};
 
-use super::Taken;
 use refusal::Refusal;
-
-// What was taken, and the place afterwards.
-#[derive(Clone, Copy)]
-pub struct TakeStep {
-    pub taken: Taken,
-    pub next: usize,
-}
 
 // Whether `width` bits from a bit place on stand inside the image.
 pub fn inside(image: &[u8], at: usize, width: usize) -> bool
     ensures { result ≡ stands_in image.now at width }
 {
-    if 18446744073709551615 - at < width {
-        return false;
+    match at.checked_add(width) {
+        Some(end) => end.div_ceil(8) <= image.len(),
+        None => false,
     }
-    let end = at + width;
-    end / 8 + (end % 8 + 7) / 8 <= image.len()
 }
 
 // The field at a bit place, from the byte on in which it starts.
@@ -35,21 +26,12 @@ fn field_at(image: &[u8], at: usize, width: usize) -> u32
     bits::get(&image[first..], at % 8, width)
 }
 
-// The field at a bit place, and the place behind it.
-pub fn take_at(image: &[u8], at: usize, width: usize) -> TakeStep
-    ensures { outcome (said_taken result.taken) result.next ≡ take_on image.now at width }
+// The field at a bit place.
+pub fn take_at(image: &[u8], at: usize, width: usize) -> Result<u32, Refusal>
+    ensures { (said_as 0 result ≡ (take_on image.now at width).said) × IfOk result (λ v. at + width < 2 ^ 64) }
 {
-    let fits = inside(image, at, width);
-    if (32 < width) | !fits {
-        return TakeStep {
-            taken: Taken::Refused(Refusal::BadEnd),
-            next: at,
-        };
+    if (32 < width) | !inside(image, at, width) {
+        return Err(Refusal::BadEnd);
     }
-    let v = field_at(image, at, width);
-    let next = at + width;
-    TakeStep {
-        taken: Taken::Field(v),
-        next,
-    }
+    Ok(field_at(image, at, width))
 }

@@ -3,19 +3,18 @@ ghost use Rattle.std.specs.Prelude.{◌≡◌, ◌+◌, ◌*◌, ◌≤◌, leng
 ghost use Rattle.bits.specs.Bits.{unpacked};
 ghost use Rattle.image.specs.Widths.{depth_width, node_width};
 ghost use Rattle.image.specs.inner.Parts.{Inside};
-ghost use Rattle.refusal.specs.Outcome.{outcome};
+ghost use Rattle.refusal.specs.Outcome.{outcome, said_as, accepted};
 ghost use Rattle.height.specs.Words.{height_size};
-ghost use Rattle.image_reader.specs.Record.{said_node, record_in, node_inside, node_on};
-ghost use Rattle.image_reader.specs.declared.NodeRead.TheVariants.{Found};
+ghost use Rattle.image_reader.specs.Record.{record_in, node_inside, node_on, no_node};
 
-use super::{NodeRead, NodeRecord, fields};
+use super::{NodeRecord, fields};
 use height::Time;
 use refusal::Refusal;
 
 // The record at a bit place: the heights go into the row.
 fn record_at(image: &[u8], at: usize, n: u32, row: &mut [u32]) -> NodeRecord
     requires { (n ≤ 16) × (length row.old ≡ n * height_size) × Inside image.now at (node_width depth_width n) }
-    ensures { outcome (said_node (Found result)) row.new ≡ record_in n (unpacked image.now) at }
+    ensures { outcome (accepted result) row.new ≡ record_in n (unpacked image.now) at }
 {
     image::rows::get_heights(image, at, image::DEPTH_WIDTH, n as usize, row);
     let clock = Time(bits::get(image, at, image::CLOCK_WIDTH));
@@ -31,33 +30,31 @@ fn record_at(image: &[u8], at: usize, n: u32, row: &mut [u32]) -> NodeRecord
 // The same at any place: the record is read from the byte on in which it starts.
 fn record_from(image: &[u8], at: usize, n: u32, row: &mut [u32]) -> NodeRecord
     requires { (n ≤ 16) × (length row.old ≡ n * height_size) × (at + node_width depth_width n ≤ 8 * length image.now) }
-    ensures { outcome (said_node (Found result)) row.new ≡ record_in n (unpacked image.now) at }
+    ensures { outcome (accepted result) row.new ≡ record_in n (unpacked image.now) at }
 {
     let first = at / 8;
     record_at(&image[first..], at % 8, n, row)
 }
 
 // 12, or the record.
-fn inside_at(image: &[u8], at: usize, n: u32, row: &mut [u32]) -> NodeRead
+fn inside_at(image: &[u8], at: usize, n: u32, row: &mut [u32]) -> Result<NodeRecord, Refusal>
     requires { (n ≤ 16) × (length row.old ≡ n * height_size) }
-    ensures { outcome (said_node result) row.new ≡ node_inside n image.now at row.old }
+    ensures { outcome (said_as no_node result) row.new ≡ node_inside n image.now at row.old }
 {
     let width = image::widths::node(image::DEPTH_WIDTH, n as usize);
-    let fits = fields::inside(image, at, width);
-    if !fits {
-        return NodeRead::Refused(Refusal::BadEnd);
+    if !fields::inside(image, at, width) {
+        return Err(Refusal::BadEnd);
     }
-    let record = record_from(image, at, n, row);
-    NodeRead::Found(record)
+    Ok(record_from(image, at, n, row))
 }
 
 // 1, 12, or the record.
-pub fn node_at(image: &[u8], at: usize, n: u32, row: &mut [u32]) -> NodeRead
-    ensures { outcome (said_node result) row.new ≡ node_on n image.now at row.old }
+pub fn node_at(image: &[u8], at: usize, n: u32, row: &mut [u32]) -> Result<NodeRecord, Refusal>
+    ensures { outcome (said_as no_node result) row.new ≡ node_on n image.now at row.old }
 {
     let heights = (n as usize) * tables::HEIGHT_SIZE;
     if (n < 1) | (16 < n) | (row.len() != heights) {
-        return NodeRead::Refused(Refusal::Sizes);
+        return Err(Refusal::Sizes);
     }
     inside_at(image, at, n, row)
 }

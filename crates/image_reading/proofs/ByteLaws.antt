@@ -14,9 +14,8 @@ use Rattle.bits.proofs.Bytes.{length-unpacked}
 use Rattle.image.specs.Places.{field_in, channels_place}
 use Rattle.image.specs.Widths.{message_width, node_width}
 use Rattle.refusal.specs.declared.Refusal.TheVariants.{Fault, BadEnd}
-use Rattle.image_reading.specs.Walk.{channel_step, channels_walk, walk, ends_at}
-use Rattle.image_reading.specs.declared.Walk.TheVariants.{At, Refused}
-use Rattle.image_reading.specs.declared.Walk.{Walk}
+use Rattle.image_reading.specs.Walk.{Walk, channel_step, channels_walk, walk, ends_at}
+use Rattle.std.proofs.Common.{Ok, Err}
 
 -- ---- a place of bits against the number of bytes
 module _ (xs : List ℕ) (q : ℕ) where
@@ -33,12 +32,12 @@ module _ (xs : List ℕ) (q : ℕ) where
   count-stands h = le-ltb (length (unpacked xs)) (q + 4) (omega (arith, length-unpacked xs))
 
 -- ---- the returns of walk_channel; c is the count that was read
-pub own-channel : (d : ℕ) (l : List ℕ) (u v q : ℕ) → u ≡ v → At q ≡ channel_step d l u v q
+pub own-channel : (d : ℕ) (l : List ℕ) (u v q : ℕ) → u ≡ v → Ok q ≡ channel_step d l u v q
 unfolding channel_step
 own-channel d l u v q e = rw (eq-eqb u v e)
 
 module _ (d : ℕ) (xs : List ℕ) (u v q : ℕ) (other : u ≡ v → ⊥) where
-  pub no-count : length xs < (q + 11) / 8 → Refused BadEnd ≡ channel_step d (unpacked xs) u v q
+  pub no-count : length xs < (q + 11) / 8 → Err BadEnd ≡ channel_step d (unpacked xs) u v q
   unfolding channel_step
   no-count h = rw (ne_eqb u v other, count_cut xs q h)
 
@@ -47,21 +46,21 @@ module _ (d : ℕ) (xs : List ℕ) (u v q : ℕ) (other : u ≡ v → ⊥) where
     unfolding field_in field
     same = sym read
 
-    pub too_many : 8 < c → Refused (Fault u v) ≡ channel_step d (unpacked xs) u v q
+    pub too_many : 8 < c → Err (Fault u v) ≡ channel_step d (unpacked xs) u v q
     unfolding channel_step
     too_many h = rw (ne_eqb u v other, count-stands xs q stands, same, lt-ltb 8 c h)
 
-    pub messages-cut : c ≤ 8 → length xs < (q + 4 + c * message_width d + 7) / 8 → Refused BadEnd ≡ channel_step d (unpacked xs) u v q
+    pub messages-cut : c ≤ 8 → length xs < (q + 4 + c * message_width d + 7) / 8 → Err BadEnd ≡ channel_step d (unpacked xs) u v q
     unfolding channel_step
     messages-cut h k = rw (ne_eqb u v other, count-stands xs q stands, same, le-ltb 8 c h, cut_off xs (q + 4 + c * message_width d) k)
 
-    pub goes_on : c ≤ 8 → (q + 4 + c * message_width d + 7) / 8 ≤ length xs → At (q + 4 + c * message_width d) ≡ channel_step d (unpacked xs) u v q
+    pub goes_on : c ≤ 8 → (q + 4 + c * message_width d + 7) / 8 ≤ length xs → Ok (q + 4 + c * message_width d) ≡ channel_step d (unpacked xs) u v q
     unfolding channel_step
     goes_on h k = rw (ne_eqb u v other, count-stands xs q stands, same, le-ltb 8 c h, not-cut xs (q + 4 + c * message_width d) k)
 
 -- ---- the returns of whole
 module _ (h d n : ℕ) (xs : List ℕ) where
-  pub nodes-cut : length xs < (h + n * node_width d n + 7) / 8 → Refused BadEnd ≡ walk h d n (unpacked xs)
+  pub nodes-cut : length xs < (h + n * node_width d n + 7) / 8 → Err BadEnd ≡ walk h d n (unpacked xs)
   unfolding walk channels_place
   nodes-cut k = rw (cut_off xs (h + n * node_width d n) k)
 

@@ -1,5 +1,4 @@
 -- Each return of `examine` is what the definition says; an accepted walk ends inside the bytes.
--- w is the answer of the walk.
 use Prim.Native.Nat.{ℕ, ◌≤◌, ◌<◌, ◌^◌}
 use native.Mathlib.Omega.{arith}
 use mathlib.Core.Bool.{true, false}
@@ -15,19 +14,18 @@ use Rattle.refusal.specs.declared.Why.{Why}
 use Rattle.image_reading.specs.Examine.{after_walk, examined}
 use Rattle.image_reading.specs.inner.Cells.{Walkable}
 use Rattle.image_reading.specs.Walk.{walk, ends_at}
-use Rattle.image_reading.specs.declared.Walk.TheVariants.{At, Refused}
-use Rattle.image_reading.specs.declared.Walk.{Walk}
+use Rattle.std.proofs.Common.{Ok, Err}
 use Rattle.image_reading.proofs.WalkLaws.{walk-accepted}
 
-module _ (h d n : ℕ) (l : List ℕ) {w : Walk} (walks : w ≡ walk h d n l) where
-  pub examined-stops : {r : Refusal} → w ≡ Refused r → why_of r ≡ examined h d n l
+module _ (h d n : ℕ) (l : List ℕ) where
+  pub examined-stops : (r : Refusal) → Err r ≡ walk h d n l → why_of r ≡ examined h d n l
   unfolding examined after_walk
-  examined-stops {r} e = ap (after_walk h d n l) (sym e ∙ walks)
+  examined-stops r e = ap (after_walk h d n l) e
 
-  module _ {q : ℕ} (on : w ≡ At q) where
-    after : after_walk h d n l (At q) ≡ examined h d n l
+  module _ {q : ℕ} (on : Ok q ≡ walk h d n l) where
+    after : after_walk h d n l (Ok q) ≡ examined h d n l
     unfolding examined
-    after = ap (after_walk h d n l) (sym on ∙ walks)
+    after = ap (after_walk h d n l) on
 
     pub examined-bad-end : ends_at l q ≡ false → why 12 0 0 ≡ examined h d n l
     unfolding after_walk
@@ -39,9 +37,9 @@ module _ (h d n : ℕ) (l : List ℕ) {w : Walk} (walks : w ≡ walk h d n l) wh
 
     module _ (short : h < 4096) (narrow : d ≤ 32) (few : n ≤ 16) where
       pub accepted-walk : Walkable h d n l
-      accepted-walk = (walk-accepted h d n l q short narrow few (sym walks ∙ on)).1
+      accepted-walk = (walk-accepted h d n l q short narrow few (sym on)).1
 
       pub accepted-end : (q < 2 ^ 30) × (q ≤ length l)
       accepted-end =
-          let end : q ≡ image_end h d n l = (walk-accepted h d n l q short narrow few (sym walks ∙ on)).0 in
+          let end : q ≡ image_end h d n l = (walk-accepted h d n l q short narrow few (sym on)).0 in
           (omega (arith, accepted-walk.small), omega (arith, accepted-walk.inside))

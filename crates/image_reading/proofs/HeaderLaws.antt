@@ -1,4 +1,4 @@
--- `said_header` is injective, and each return of `decode` says what the header's definition says.
+-- What is said of a header is injective, and each return of `decode` says what the header's definition says.
 -- a, b, n and e are the fields that were read: version, header length, number of nodes and spare bits.
 use Prim.Native.Nat.{ℕ, ◌≤◌, ◌<◌}
 use mathlib.Core.Bool.{true, false, cond, ◌&&◌}
@@ -8,25 +8,24 @@ use borrow.Author.Tests.{lt-ltb, le-ltb}
 use lib.Dec.{eqb, leb}
 use lib.ListN.{length}
 use Rattle.bits.specs.Bits.{field}
-use Rattle.refusal.specs.Outcome.{Answered, accepted}
+use Rattle.std.specs.Prelude.{Result, Ok, Err}
+use Rattle.refusal.specs.Outcome.{Answered, accepted, said_as}
+use Rattle.refusal.specs.declared.Refusal.{Refusal}
 use Rattle.refusal.proofs.RefusalLaws.{reason_from, reason-back, never-0}
-use Rattle.image_reading.specs.Header.{bad_header, header_holds, header_of}
-use Rattle.image_reading.specs.inner.Answers.{said_header}
+use Rattle.image_reading.specs.Header.{bad_header, no_fields, header_holds, header_of}
 use Rattle.image_reading.specs.declared.Fields.{Fields}
-use Rattle.image_reading.specs.declared.Header.TheVariants.{Good, Refused}
-use Rattle.image_reading.specs.declared.Header.{Header}
 
 -- ---- the header from what it says
 
-header_from : Answered Fields → Header
-header_from s = cond (eqb s.why.number 0) (Good s.value) (Refused (reason_from s.why))
+header_from : Answered Fields → Result Fields Refusal
+header_from s = cond (eqb s.why.number 0) (Ok s.value) (Err (reason_from s.why))
 
-header-back : (h : Header) → header_from (said_header h) ≡ h
+header-back : (h : Result Fields Refusal) → header_from (said_as no_fields h) ≡ h
 unfolding header_from
-header-back (Good f) = refl
-header-back (Refused r) = rw (never-0 r, reason-back r)
+header-back (Ok f) = refl
+header-back (Err r) = rw (never-0 r, reason-back r)
 
-pub header-injective : (g h : Header) → said_header g ≡ said_header h → g ≡ h
+pub header-injective : (g h : Result Fields Refusal) → said_as no_fields g ≡ said_as no_fields h → g ≡ h
 header-injective g h e = sym (header-back g) ∙ (ap header_from e ∙ header-back h)
 
 -- ---- the returns of decode

@@ -1,37 +1,38 @@
 -- The search of the contents, row by row and pair by pair: that each return is the first fault, or else the first untimely pair.
 -- What holds at the head of each loop is that of the lent tables (`lent` Walks).
-use Prim.Native.Nat.{ℕ, zero, suc, ◌+◌, ◌*◌, ◌≤◌, ◌<◌}
+use Prim.Native.Nat.{ℕ, zero, suc, ◌+◌, ◌-◌, ◌*◌, ◌≤◌, ◌<◌}
 use native.Mathlib.Numerals.{add-one}
 use native.Mathlib.Omega.{arith}
-use mathlib.Core.Bool.{Bool, true, false, cond}
+use mathlib.Core.Bool.{Bool, cond}
 use mathlib.Core.List.{List, []}
 use mathlib.Core.Path.{◌≡◌, refl, sym, ap, ap₂, ◌∙◌}
 use borrow.Author.Tests.{eqb-false}
 use lib.Dec.{eqb}
 use lib.ListN.{length, drop}
-use Rattle.basics.proofs.Tests.{clash, Choice, yes!, no!, choice}
-use Rattle.image.specs.Places.{field_in, channel_from, records_in, tables_in}
+use Rattle.std.specs.Prelude.{Result, Ok, ⊤}
+use Rattle.basics.proofs.Tests.{Choice, yes!, no!, choice}
+use Rattle.image.specs.Places.{field_in, channel_from, channel_next, records_in, tables_in}
 use Rattle.image.specs.Widths.{node_width}
 use Rattle.image.specs.inner.Parts.{row_from}
 use Rattle.image.proofs.ChannelLaws.{length-messages-of}
 use Rattle.image.proofs.PartLaws.{records-shaped, channel-eights}
-use Rattle.lent.specs.Check.{pair_at, timely_at, fault_in_row, fault_from, or_else}
-use Rattle.lent.specs.inner.Kept.{said_late}
-use Rattle.lent.proofs.Walks.{none_late, BothRow, BothRows, both-fault, both_end, all-next, all-fault, late-or-none, kept-late}
+use Rattle.std.specs.Result.{result_and}
+use Rattle.lent.specs.Check.{pair_at, timely_at, fault_in_row, fault_from, or_else, said_check}
+use Rattle.lent.proofs.Walks.{BothRow, BothRows, both_end, all-next, all-fault, late-or-none, kept-late}
 use Rattle.pairs.specs.Pair.{pair_sound, timely_in}
 use Rattle.pairs.specs.declared.Finding.{Finding}
-use Rattle.pairs.specs.declared.Late.{Late}
-use Rattle.pairs.specs.inner.Findings.{finding, is_faulty, kept_or}
+use Rattle.pairs.specs.inner.Findings.{finding}
 use Rattle.pairs.specs.inner.ReadCell.{ReadCell}
-use Rattle.refusal.specs.Refusal.{why}
+use Rattle.refusal.specs.Refusal.{why, why_of}
+use Rattle.refusal.specs.declared.Refusal.{Refusal}
 use Rattle.refusal.specs.declared.Why.{Why}
+use Rattle.refusal.proofs.RefusalLaws.{never-0}
 use Rattle.tables.specs.Records.{cell_words}
 use Rattle.tables.specs.Tables.{node_of, channel_of}
 use Rattle.tables.proofs.RecordsLaws.{row_from-is, cell-from, unused-zero}
 use Rattle.image_reading.specs.inner.Search.{row_holds, row_timely, Searched}
-use Rattle.image_reading.specs.declared.RowFound.{RowFound}
-use Rattle.image_reading.specs.inner.Cells.{ChannelIn, cell_in, cell_behind}
-use Rattle.image_reading.proofs.ReadLaws.{ChannelAt, ChannelsAt, row-got, cell-behind, cell-got}
+use Rattle.image_reading.specs.inner.Cells.{ChannelIn, ChannelsIn, cell_in, cell_behind}
+use Rattle.image_reading.proofs.ReadLaws.{ChannelAt, ChannelsAt, channel-of, channel-next, row-got, cell-behind, cell-got}
 
 -- ---- one row
 
@@ -52,36 +53,32 @@ cell-read {d} {l} {u} {v} {p} c e =
     short : length (cond (eqb u v) [] (channel_from d l p)) ≤ 8
     short = go (choice (eqb u v))
 
--- the pair that was tested, of the cell that was read
-pub pair_read : {d : ℕ} {l : List ℕ} {u q v p : ℕ} → ChannelAt d l u q v p → (n : ℕ) (row : List ℕ) {cell : List ℕ} {f : Finding}
-    → cell ≡ cell_in d l u (v + 1) p → f ≡ finding (pair_sound n u (v + 1) row cell) (timely_in (v + 1) row cell)
-    → f ≡ finding (row_holds d n l row q u (v + 1)) (row_timely d l row q u (v + 1))
-unfolding row_holds row_timely
-pair_read {d} {l} {u} {q} {v} at n row e t =
-    t ∙ ap (λ (c : List ℕ). finding (pair_sound n u (v + 1) row c) (timely_in (v + 1) row c))
-    (cell-behind at e ∙ ap (cell_behind d l u q) (sym (add-one v)))
+-- pair v of row u: its channel is behind those to the nodes below v
+module _ {d : ℕ} {l : List ℕ} {u q v p : ℕ} (low : 1 ≤ v) (at : ChannelAt d l u q (v - 1) p) where
+  back : v - 1 + 1 ≡ v
+  back = omega arith
 
-module _ (s t : ℕ → ℕ → Bool) (n u : ℕ) (late : Late) (v : ℕ) (r : BothRow s t n u none_late late (v + 1)) where
-  -- a fault ends the row
-  pub row-stops : {q p : ℕ} {f : Finding} → v < n → f ≡ finding (s u (v + 1)) (t u (v + 1)) → is_faulty f ≡ true
-      → Searched s t n u q (record { faulty = true; at = record { u = u; v = v + 1 }; place = p })
-  row-stops h is e = record {
-    fault = λ _. both-fault s t n u none_late late (v + 1) r (omega arith) is e;
-    none = λ z. clash refl z;
-    first = λ z. clash refl z;
-    ends = λ z. clash refl z;
-  }
+  pub pair-channel : {n : ℕ} → ChannelsIn d n l u q → v < n + 1 → ChannelIn d l u v p
+  pair-channel c h = rw back at (channel-of at c (omega arith))
 
-  -- past the last pair
-  pub row-passes : {q p : ℕ} → n ≤ v → p ≡ q → Searched s t n u q (record { faulty = false; at = late; place = p })
-  row-passes h e =
-      let end = both_end s t n u none_late late (v + 1) r (omega arith) in
-      record {
-        fault = λ z. clash z refl;
-        none = λ _. end.0;
-        first = λ _. sym (end.1 ∙ late-or-none late);
-        ends = λ _. e;
-      }
+  pub pair-next : {r : ℕ} → r ≡ channel_next d l u v p → ChannelAt d l u q (v + 1 - 1) r
+  pair-next e = let z : v + 1 - 1 ≡ v - 1 + 1 = omega arith in rw z (channel-next at (rw back e))
+
+  -- what is found of it, by the cell that was read
+  pub pair_read : (n : ℕ) (row : List ℕ) {cell : List ℕ} {f : Finding} → cell ≡ cell_in d l u v p
+      → f ≡ finding (pair_sound n u v row cell) (timely_in v row cell) → f ≡ finding (row_holds d n l row q u v) (row_timely d l row q u v)
+  unfolding row_holds row_timely
+  pair_read n row {cell} e t =
+      let k : suc (v - 1) ≡ v = omega arith in
+      let is : cell ≡ cell_behind d l u q v = rw k at (cell-behind at {cell = cell} (rw back e)) in
+      t ∙ ap (λ (c : List ℕ). finding (pair_sound n u v row c) (timely_in v row c)) is
+
+-- past the last pair
+pub row-passes : (s t : ℕ → ℕ → Bool) (n u : ℕ) (base late : Result ⊤ Refusal) (v : ℕ) → BothRow s t n u base late v → n + 1 ≤ v
+    → (fault_in_row 2 s u 1 n ≡ why 0 0 0) × (said_check late ≡ or_else (said_check base) (fault_in_row 18 t u 1 n))
+row-passes s t n u base late v r h =
+    let end = both_end s t n u base late v r (omega arith) in
+    (end.0, sym (end.1 ∙ late-or-none late))
 
 -- ---- all rows
 
@@ -117,13 +114,13 @@ module _ {h d n : ℕ} {l : List ℕ} {k p : ℕ} (at : ChannelsAt h d n l k p) 
       (λ j c. ap₂ (timely_in (suc j)) row_is (cell-is j c)))
 
 -- the search of the next row, by the tables
-module _ (s t x y : ℕ → ℕ → Bool) (n : ℕ) (late : Late) (u : ℕ) (r : BothRows s t n late (u + 1)) (h : u < n) {q : ℕ} {w : RowFound}
-    (searched : Searched x y n (u + 1) q w) (sound : fault_in_row 2 x (u + 1) 1 n ≡ fault_in_row 2 s (u + 1) 1 n)
-    (timely : fault_in_row 18 y (u + 1) 1 n ≡ fault_in_row 18 t (u + 1) 1 n) where
-  pub rows-stop : w.faulty ≡ true → why 2 w.at.u w.at.v ≡ or_else (fault_from 2 s n 1 n) (fault_from 18 t n 1 n)
-  rows-stop e = all-fault s t n (u + 1) late r (omega arith) (sym sound ∙ searched.fault e) refl
+module _ (s t x y : ℕ → ℕ → Bool) (n : ℕ) (late : Result ⊤ Refusal) (u : ℕ) (r : BothRows s t n late (u + 1)) (h : u < n)
+    (sound : fault_in_row 2 x (u + 1) 1 n ≡ fault_in_row 2 s (u + 1) 1 n) (timely : fault_in_row 18 y (u + 1) 1 n ≡ fault_in_row 18 t (u + 1) 1 n) where
+  pub rows-stop : (w : Refusal) → fault_in_row 2 x (u + 1) 1 n ≡ why_of w → why_of w ≡ or_else (fault_from 2 s n 1 n) (fault_from 18 t n 1 n)
+  rows-stop w searched = all-fault s t n (u + 1) late r (omega arith) (sym sound ∙ searched) (never-0 w)
 
-  pub rows-go : w.faulty ≡ false → {next : Late} → next ≡ kept_or late (eqb w.at.u 0) w.at.u w.at.v → BothRows s t n next (u + 1 + 1)
-  rows-go e {next} q =
-      all-next s t n (u + 1) late r (omega arith) next (sym sound ∙ searched.none e)
-      (ap (or_else (said_late late)) (sym timely ∙ sym (searched.first e)) ∙ sym (kept-late late w.at) ∙ ap said_late (sym q) ∙ sym (late-or-none next))
+  pub rows-go : (q p : ℕ) (here next : Result ⊤ Refusal) → Searched x y n (u + 1) q (Ok (p, here)) → next ≡ result_and late here
+      → BothRows s t n next (u + 1 + 1)
+  rows-go q p here next searched e =
+      all-next s t n (u + 1) late r (omega arith) next (sym sound ∙ searched.0)
+      (ap (or_else (said_check late)) (sym timely ∙ sym searched.1) ∙ sym (ap said_check e ∙ kept-late late here) ∙ sym (late-or-none next))

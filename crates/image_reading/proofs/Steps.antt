@@ -4,44 +4,30 @@ use native.Mathlib.Nat.{add-zero, add-suc, le-suc_iff}
 use native.Mathlib.Numerals.{add-one}
 use native.Mathlib.Omega.{arith}
 use mathlib.Core.Bool.{Bool, true, false, cond}
-use mathlib.Core.List.{List, [], ◌∷◌}
+use mathlib.Core.List.{List}
 use mathlib.Core.Logic.{◌⊎◌, inl, inr}
 use mathlib.Core.Path.{◌≡◌, refl, sym, ap, subst, ◌∙◌}
 use borrow.Author.Tests.{ltb-false, eqb-true}
-use denote.Enum.Declared.{tag_of}
 use lib.Dec.{ltb, eqb}
 use lib.ListN.{length}
-use types.Run.{OneOf, miss}
 use Rattle.image.specs.Places.{field_in, walked, channel_next}
 use Rattle.image.specs.Widths.{message_width}
 use Rattle.image.proofs.Bounds.{messages-small}
 use Rattle.image.proofs.ChannelLaws.{next-same, next-other}
 use Rattle.refusal.specs.declared.Refusal.TheVariants.{Fault, BadEnd}
-use Rattle.image_reading.specs.Walk.{channel_step, onward, steps}
-use Rattle.image_reading.specs.declared.Walk.TheVariants.{At, Refused}
-use Rattle.image_reading.specs.declared.Walk.{Walk}
-use Rattle.image_reading.specs.contracts.Walk as declared
-
--- a walk that `let .. else` turns away
-abbrev pub Stopped : Walk → Type 0
-Stopped w = OneOf (1 ∷ []) (tag_of declared.the_type w)
+use Rattle.refusal.specs.declared.Refusal.{Refusal}
+use Rattle.image_reading.specs.Walk.{Walk, channel_step, onward, steps}
+use Rattle.std.proofs.Common.{Ok, Err}
 
 -- ---- stopped walks
-stays : (w : Walk) (f : ℕ → Walk) → Stopped w → onward w f ≡ w
-unfolding onward
-stays (At q) f k = absurd (miss (1 ∷ []) 0 tt k)
-stays (Refused r) f k = refl
-
-steps-stay : (f : ℕ → ℕ → Walk) (k q : ℕ) (w : Walk) → Stopped w → steps f k q ≡ w → (j : ℕ) → steps f (k + j) q ≡ w
-unfolding steps
-steps-stay f k q w s e zero = ap (λ (x : ℕ). steps f x q) (add-zero k) ∙ e
-steps-stay f k q w s e (suc j) =
-    ap (λ (x : ℕ). steps f x q) (add-suc k j)
-    ∙ ap (λ (x : Walk). onward x (f (suc (k + j)))) (steps-stay f k q w s e j)
-    ∙ stays w (f (suc (k + j))) s
+steps-stay : (f : ℕ → ℕ → Walk) (k q : ℕ) (r : Refusal) → steps f k q ≡ Err r → (j : ℕ) → steps f (k + j) q ≡ Err r
+unfolding steps onward
+steps-stay f k q r e zero = ap (λ (x : ℕ). steps f x q) (add-zero k) ∙ e
+steps-stay f k q r e (suc j) =
+    ap (λ (x : ℕ). steps f x q) (add-suc k j) ∙ ap (λ (x : Walk). onward x (f (suc (k + j)))) (steps-stay f k q r e j)
 
 -- one step more
-steps-more : (f : ℕ → ℕ → Walk) (k q p : ℕ) → steps f k q ≡ At p → steps f (k + 1) q ≡ f (k + 1) p
+steps-more : (f : ℕ → ℕ → Walk) (k q p : ℕ) → steps f k q ≡ Ok p → steps f (k + 1) q ≡ f (k + 1) p
 unfolding steps onward
 steps-more f k q p e =
     ap (λ (x : ℕ). steps f x q) (add-one k)
@@ -53,33 +39,31 @@ steps-more f k q p e =
 pub record Walking (f : ℕ → ℕ → Walk) (m n q k p : ℕ) : Type 0 where
   pub high : k ≤ n
   pub near : p ≤ q + k * m
-  pub reached : steps f k q ≡ At p
+  pub reached : steps f k q ≡ Ok p
 
 module _ (f : ℕ → ℕ → Walk) (m n q : ℕ) where
   pub walk_start : Walking f m n q 0 q
   unfolding steps
   walk_start = record { high = omega arith; near = omega arith; reached = refl }
 
-  -- w is what the next step gave
-  module _ (k p : ℕ) (walking : Walking f m n q k p) (w : Walk) (step : w ≡ f (k + 1) p) (more : k < n) where
-    pub walk-next : (r : ℕ) → w ≡ At r → (f (k + 1) p ≡ At r → r ≤ p + m) → Walking f m n q (k + 1) r
+  module _ (k p : ℕ) (walking : Walking f m n q k p) (more : k < n) where
+    pub walk-next : (r : ℕ) → Ok r ≡ f (k + 1) p → (f (k + 1) p ≡ Ok r → r ≤ p + m) → Walking f m n q (k + 1) r
     walk-next r e far =
-        let g : f (k + 1) p ≡ At r = sym step ∙ e in
-        record { high = omega arith; near = omega (arith, far g); reached = steps-more f k q p walking.reached ∙ g }
+        record { high = omega arith; near = omega (arith, far (sym e)); reached = steps-more f k q p walking.reached ∙ sym e }
 
-    pub walk-stops : Stopped w → w ≡ steps f n q
-    walk-stops s =
+    pub walk-stops : (r : Refusal) → Err r ≡ f (k + 1) p → Err r ≡ steps f n q
+    walk-stops r e =
         let j : k + 1 + (n - (k + 1)) ≡ n = omega arith in
-        sym (steps-stay f (k + 1) q w s (steps-more f k q p walking.reached ∙ sym step) (n - (k + 1))) ∙ ap (λ (x : ℕ). steps f x q) j
+        sym (steps-stay f (k + 1) q r (steps-more f k q p walking.reached ∙ sym e) (n - (k + 1))) ∙ ap (λ (x : ℕ). steps f x q) j
 
-  pub walk-done : (k p : ℕ) → Walking f m n q k p → n ≤ k → At p ≡ steps f n q
+  pub walk-done : (k p : ℕ) → Walking f m n q k p → n ≤ k → Ok p ≡ steps f n q
   walk-done k p walking h = let e : k ≡ n = omega arith in sym walking.reached ∙ ap (λ (x : ℕ). steps f x q) e
 
 -- ---- accepted steps
-onward-at : (w : Walk) (f : ℕ → Walk) (r : ℕ) → onward w f ≡ At r → (p : ℕ) × (w ≡ At p) × (f p ≡ At r)
+onward-at : (w : Walk) (f : ℕ → Walk) (r : ℕ) → onward w f ≡ Ok r → (p : ℕ) × (w ≡ Ok p) × (f p ≡ Ok r)
 unfolding onward
-onward-at (At p) f r e = (p, refl, e)
-onward-at (Refused x) f r e = absurd (let z : ◌≡◌ {A = ℕ} 0 1 = cc in omega arith)
+onward-at (Ok p) f r e = (p, refl, e)
+onward-at (Err x) f r e = absurd (let z : ◌≡◌ {A = ℕ} 0 1 = cc in omega arith)
 
 -- from q to r is at most m, and inside the image if q is
 pub record Near (m : ℕ) (l : List ℕ) (q r : ℕ) : Type 0 where
@@ -90,7 +74,7 @@ pub record Near (m : ℕ) (l : List ℕ) (q r : ℕ) : Type 0 where
 pub record Went (f : ℕ → ℕ → Walk) (next : ℕ → ℕ → ℕ) (m : ℕ) (l : List ℕ) (k q r : ℕ) : Type 0 where
   pub place : r ≡ walked next k q
   pub near : Near (k * m) l q r
-  pub each : (j : ℕ) → j < k → f (suc j) (walked next j q) ≡ At (walked next (suc j) q)
+  pub each : (j : ℕ) → j < k → f (suc j) (walked next j q) ≡ Ok (walked next (suc j) q)
 
 -- what holds for all j below k, and for k
 one_more : (P : ℕ → Type 0) (k : ℕ) → ((j : ℕ) → j < k → P j) → P k → (j : ℕ) → (suc j ≤ k) ⊎ (suc j ≡ suc k) → P j
@@ -98,7 +82,7 @@ one_more P k each last j (inl h) = each j h
 one_more P k each last j (inr h) = let e : k ≡ j = omega arith in subst P e last
 
 module _ (f : ℕ → ℕ → Walk) (next : ℕ → ℕ → ℕ) (m : ℕ) (l : List ℕ) where
-  pub went : ((k q r : ℕ) → f k q ≡ At r → (r ≡ next k q) × Near m l q r) → (k q r : ℕ) → steps f k q ≡ At r → Went f next m l k q r
+  pub went : ((k q r : ℕ) → f k q ≡ Ok r → (r ≡ next k q) × Near m l q r) → (k q r : ℕ) → steps f k q ≡ Ok r → Went f next m l k q r
   unfolding steps walked
   went one zero q r e =
       let z : q ≡ r = cc in
@@ -112,13 +96,13 @@ module _ (f : ℕ → ℕ → Walk) (next : ℕ → ℕ → ℕ) (m : ℕ) (l : 
         place = place;
         near = record { near = omega (arith, s.near.near, t.1.near); inside = λ h. t.1.inside (s.near.inside h) };
         each = λ j h.
-            one_more (λ (j : ℕ). f (suc j) (walked next j q) ≡ At (walked next (suc j) q)) k s.each
-            (ap (f (suc k)) (sym s.place) ∙ b ∙ ap At place) j (le-suc_iff.0 h);
+            one_more (λ (j : ℕ). f (suc j) (walked next j q) ≡ Ok (walked next (suc j) q)) k s.each
+            (ap (f (suc k)) (sym s.place) ∙ b ∙ ap Ok place) j (le-suc_iff.0 h);
       }
 
 -- and back: steps that all go on come to the place after them
 module _ (f : ℕ → ℕ → Walk) (next : ℕ → ℕ → ℕ) where
-  pub steps-go : (k q : ℕ) → ((j : ℕ) → j < k → f (suc j) (walked next j q) ≡ At (walked next (suc j) q)) → steps f k q ≡ At (walked next k q)
+  pub steps-go : (k q : ℕ) → ((j : ℕ) → j < k → f (suc j) (walked next j q) ≡ Ok (walked next (suc j) q)) → steps f k q ≡ Ok (walked next k q)
   unfolding steps walked onward
   steps-go zero q each = refl
   steps-go (suc k) q each =
@@ -131,7 +115,7 @@ pub record Stepped (d : ℕ) (l : List ℕ) (u v q r : ℕ) : Type 0 where
   pub near : Near 1156 l q r
   pub few : (u ≡ v → ⊥) → field_in l q 4 ≤ 8
 
-pub channel-stepped : (d : ℕ) (l : List ℕ) (u v q r : ℕ) → d ≤ 32 → channel_step d l u v q ≡ At r → Stepped d l u v q r
+pub channel-stepped : (d : ℕ) (l : List ℕ) (u v q r : ℕ) → d ≤ 32 → channel_step d l u v q ≡ Ok r → Stepped d l u v q r
 unfolding channel_step
 channel-stepped d l u v q r small e =
     go (eqb u v) (ltb (length l) (q + 4)) (ltb 8 c) (ltb (length l) (q + 4 + c * message_width d)) refl refl refl e
@@ -140,7 +124,7 @@ channel-stepped d l u v q r small e =
     c = field_in l q 4
 
     go : (a b f g : Bool) → eqb u v ≡ a → ltb 8 c ≡ f → ltb (length l) (q + 4 + c * message_width d) ≡ g
-        → cond a (At q) (cond b (Refused BadEnd) (cond f (Refused (Fault u v)) (cond g (Refused BadEnd) (At (q + 4 + c * message_width d))))) ≡ At r → Stepped d l u v q r
+        → cond a (Ok q) (cond b (Err BadEnd) (cond f (Err (Fault u v)) (cond g (Err BadEnd) (Ok (q + 4 + c * message_width d))))) ≡ Ok r → Stepped d l u v q r
     go true b f g ea ef eg w =
         let z : q ≡ r = cc in
         record {

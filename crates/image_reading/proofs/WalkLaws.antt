@@ -18,7 +18,7 @@ use Rattle.protocol.specs.Network.{Node, Two}
 use Rattle.refusal.specs.declared.Refusal.TheVariants.{Fault, BadEnd}
 use Rattle.image_reading.specs.inner.Cells.{Walkable}
 use Rattle.image_reading.specs.Walk.{channel_step, channels_from_walk, channels_walk, walk}
-use Rattle.image_reading.specs.declared.Walk.TheVariants.{At, Refused}
+use Rattle.std.proofs.Common.{Ok, Err}
 use Rattle.image_reading.proofs.Steps.{Near, Went, went, steps-go, Stepped, channel-stepped}
 
 -- ---- accepted walks
@@ -29,10 +29,10 @@ pub record RowWent (d n : ℕ) (l : List ℕ) (u q r : ℕ) : Type 0 where
   pub few : (v : ℕ) → Node n v → (u ≡ v → ⊥) → field_in l (walked (channel_next d l u) (v - 1) q) 4 ≤ 8
 
 module _ (d n : ℕ) (l : List ℕ) (small : d ≤ 32) where
-  pub row-went : (u q r : ℕ) → channels_from_walk d n l u q ≡ At r → RowWent d n l u q r
+  pub row-went : (u q r : ℕ) → channels_from_walk d n l u q ≡ Ok r → RowWent d n l u q r
   unfolding channels_from_walk channels_next
   row-went u q r e =
-      let one : (v p s : ℕ) → channel_step d l u v p ≡ At s → Stepped d l u v p s = λ v p s t. channel-stepped d l u v p s small t in
+      let one : (v p s : ℕ) → channel_step d l u v p ≡ Ok s → Stepped d l u v p s = λ v p s t. channel-stepped d l u v p s small t in
       let w : Went (channel_step d l u) (channel_next d l u) 1156 l n q r =
       went (channel_step d l u) (channel_next d l u) 1156 l (λ v p s t. ((one v p s t).place, (one v p s t).near)) n q r e in
       record {
@@ -45,16 +45,16 @@ module _ (d n : ℕ) (l : List ℕ) (small : d ≤ 32) where
       }
 
   -- the bound that the loop over all nodes needs
-  pub row_near : n ≤ 16 → (u q r : ℕ) → channels_from_walk d n l u q ≡ At r → r ≤ q + 18496
+  pub row_near : n ≤ 16 → (u q r : ℕ) → channels_from_walk d n l u q ≡ Ok r → r ≤ q + 18496
   row_near few u q r e = omega (arith, (row-went u q r e).near.near)
 
   -- all channels, which start at q and end at r
-  channels-went : (q r : ℕ) → channels_walk d n l q ≡ At r → Went (channels_from_walk d n l) (channels_next d n l) (n * 1156) l n q r
+  channels-went : (q r : ℕ) → channels_walk d n l q ≡ Ok r → Went (channels_from_walk d n l) (channels_next d n l) (n * 1156) l n q r
   unfolding channels_walk
   channels-went q r e =
       went (channels_from_walk d n l) (channels_next d n l) (n * 1156) l (λ u p s t. ((row-went u p s t).place, (row-went u p s t).near)) n q r e
 
-  channels-few : (q r : ℕ) → channels_walk d n l q ≡ At r → (u v : ℕ) → Two n u v
+  channels-few : (q r : ℕ) → channels_walk d n l q ≡ Ok r → (u v : ℕ) → Two n u v
       → field_in l (walked (channel_next d l u) (v - 1) (walked (channels_next d n l) (u - 1) q)) 4 ≤ 8
   channels-few q r e u v two =
       let j : suc (u - 1) ≡ u = omega arith in
@@ -64,13 +64,13 @@ module _ (d n : ℕ) (l : List ℕ) (small : d ≤ 32) where
       subst (λ (x : ℕ). field_in l (walked (channel_next d l x) (v - 1) p) 4 ≤ 8) j (row.few v two.other (λ same. two.differ (sym j ∙ same)))
 
 -- an accepted walk does not start behind the image
-walk-starts : (h d n : ℕ) (l : List ℕ) (q : ℕ) → walk h d n l ≡ At q
-    → (channels_place h d n ≤ length l) × (channels_walk d n l (channels_place h d n) ≡ At q)
+walk-starts : (h d n : ℕ) (l : List ℕ) (q : ℕ) → walk h d n l ≡ Ok q
+    → (channels_place h d n ≤ length l) × (channels_walk d n l (channels_place h d n) ≡ Ok q)
 unfolding walk
 walk-starts h d n l q e = go (ltb (length l) (channels_place h d n)) refl e
   where
-    go : (b : Bool) → ltb (length l) (channels_place h d n) ≡ b → cond b (Refused BadEnd) (channels_walk d n l (channels_place h d n)) ≡ At q
-        → (channels_place h d n ≤ length l) × (channels_walk d n l (channels_place h d n) ≡ At q)
+    go : (b : Bool) → ltb (length l) (channels_place h d n) ≡ b → cond b (Err BadEnd) (channels_walk d n l (channels_place h d n)) ≡ Ok q
+        → (channels_place h d n ≤ length l) × (channels_walk d n l (channels_place h d n) ≡ Ok q)
     go true eb w = absurd (let z : ◌≡◌ {A = ℕ} 0 1 = cc in omega arith)
     go false eb w = (ltb-false (length l) (channels_place h d n) eb, w)
 
@@ -79,7 +79,7 @@ start_small : (h d n : ℕ) → h < 4096 → d ≤ 32 → n ≤ 16 → channels_
 unfolding channels_place
 start_small h d n a b c = omega (arith, nodes-small d n b c)
 
-pub walk-accepted : (h d n : ℕ) (l : List ℕ) (q : ℕ) → h < 4096 → d ≤ 32 → n ≤ 16 → walk h d n l ≡ At q
+pub walk-accepted : (h d n : ℕ) (l : List ℕ) (q : ℕ) → h < 4096 → d ≤ 32 → n ≤ 16 → walk h d n l ≡ Ok q
     → (q ≡ image_end h d n l) × Walkable h d n l
 unfolding image_end channel_place channels_from_place
 walk-accepted h d n l q short narrow few e =
@@ -99,7 +99,7 @@ walk-accepted h d n l q short narrow few e =
 -- ---- and back
 -- a channel inside the image with at most 8 messages
 channel-goes : (d : ℕ) (l : List ℕ) (u v q : ℕ) → channel_next d l u v q ≤ length l → ((u ≡ v → ⊥) → field_in l q 4 ≤ 8)
-    → channel_step d l u v q ≡ At (channel_next d l u v q)
+    → channel_step d l u v q ≡ Ok (channel_next d l u v q)
 unfolding channel_step channel_next
 channel-goes d l u v q inside few = go (eqb u v) refl inside
   where
@@ -107,9 +107,9 @@ channel-goes d l u v q inside few = go (eqb u v) refl inside
     next = q + 4 + field_in l q 4 * message_width d
 
     go : (b : Bool) → eqb u v ≡ b → cond b q next ≤ length l
-        → cond b (At q)
-        (cond (ltb (length l) (q + 4)) (Refused BadEnd) (cond (ltb 8 (field_in l q 4)) (Refused (Fault u v)) (cond (ltb (length l) next) (Refused BadEnd) (At next))))
-        ≡ At (cond b q next)
+        → cond b (Ok q)
+        (cond (ltb (length l) (q + 4)) (Err BadEnd) (cond (ltb 8 (field_in l q 4)) (Err (Fault u v)) (cond (ltb (length l) next) (Err BadEnd) (Ok next))))
+        ≡ Ok (cond b q next)
     go true e i = refl
     go false e i =
         let room : ltb (length l) (q + 4) ≡ false = le-ltb (length l) (q + 4) (omega arith) in
@@ -121,7 +121,7 @@ module _ (d n : ℕ) (l : List ℕ) where
   -- the channels from u
   row_goes : (u q : ℕ) → channels_next d n l u q ≤ length l
       → ((v : ℕ) → Node n v → (u ≡ v → ⊥) → field_in l (walked (channel_next d l u) (v - 1) q) 4 ≤ 8)
-      → channels_from_walk d n l u q ≡ At (channels_next d n l u q)
+      → channels_from_walk d n l u q ≡ Ok (channels_next d n l u q)
   unfolding channels_from_walk channels_next walked
   row_goes u q inside few =
       steps-go (channel_step d l u) (channel_next d l u) n q
@@ -135,7 +135,7 @@ module _ (d n : ℕ) (l : List ℕ) where
   -- all channels
   channels-go : (q : ℕ) → walked (channels_next d n l) n q ≤ length l
       → ((u v : ℕ) → Two n u v → field_in l (walked (channel_next d l u) (v - 1) (walked (channels_next d n l) (u - 1) q)) 4 ≤ 8)
-      → channels_walk d n l q ≡ At (walked (channels_next d n l) n q)
+      → channels_walk d n l q ≡ Ok (walked (channels_next d n l) n q)
   unfolding channels_walk walked
   channels-go q inside few =
       steps-go (channels_from_walk d n l) (channels_next d n l) n q
@@ -148,7 +148,7 @@ module _ (d n : ℕ) (l : List ℕ) where
       (few (suc j) v (record { one = record { low = omega arith; high = h }; other = node; differ = other }))))
 
 pub walk-goes : (h d n : ℕ) (l : List ℕ) → image_end h d n l ≤ length l
-    → ((u v : ℕ) → Two n u v → field_in l (channel_place h d n l u v) 4 ≤ 8) → walk h d n l ≡ At (image_end h d n l)
+    → ((u v : ℕ) → Two n u v → field_in l (channel_place h d n l u v) 4 ≤ 8) → walk h d n l ≡ Ok (image_end h d n l)
 unfolding walk image_end channel_place channels_from_place
 walk-goes h d n l inside few =
     let p : ℕ = channels_place h d n in

@@ -1,4 +1,3 @@
--- Definitions for leaf functions and proofs: no public promise cites them. What the functions of this crate answer and ask of each other.
-pub mod Answers
+-- Definitions for leaf functions and proofs: no public promise cites them. What the functions of this crate ask of each other.
 pub mod Cells
 pub mod Search

@@ -15,12 +15,10 @@ pub fn read_rows(image: &[u8], h: usize, depth: u8, n: u32, nodes: &mut [u32])
     let k = n as usize;
     let wide = tables::ROW_HEAD + tables::HEIGHT_SIZE * k;
     let step = image::widths::node(depth, k);
-    let mut u: usize = 0;
-    while u < k {
+    for u in 0..k {
         let a = u * wide;
         let e = a + wide;
         image::rows::get_row(image, h + u * step, depth, k, &mut nodes[a..e]);
-        u += 1;
     }
 }
 
@@ -44,12 +42,10 @@ fn read_cells_from(image: &[u8], at: usize, depth: u8, n: u32, u: u32, cells: &m
         × (result ≡ channels_next depth n (unpacked image.now) u at) }
 {
     let mut place = at;
-    let mut v: u32 = 0;
-    while v < n {
+    for v in 0..n {
         let a = v as usize * tables::CELL_WIDTH;
         let e = a + tables::CELL_WIDTH;
         place = read_cell(image, place, depth, u, v + 1, &mut cells[a..e]);
-        v += 1;
     }
     place
 }
@@ -62,11 +58,9 @@ pub fn read_cells(image: &[u8], h: usize, depth: u8, n: u32, channels: &mut [u32
     let k = n as usize;
     let wide = k * tables::CELL_WIDTH;
     let mut place = h + k * image::widths::node(depth, k);
-    let mut u: u32 = 0;
-    while u < n {
+    for u in 0..n {
         let a = u as usize * wide;
         let e = a + wide;
         place = read_cells_from(image, place, depth, n, u + 1, &mut channels[a..e]);
-        u += 1;
     }
 }

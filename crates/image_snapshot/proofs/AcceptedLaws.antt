@@ -14,9 +14,8 @@ use Rattle.image.specs.inner.Parts.{image_end}
 use Rattle.image_reading.specs.Examine.{after_walk, examined}
 use Rattle.image_reading.specs.inner.Cells.{Walkable}
 use Rattle.image_reading.specs.Header.{fields_of, header_holds, header_of}
-use Rattle.image_reading.specs.Walk.{walk, ends_at}
-use Rattle.image_reading.specs.declared.Walk.TheVariants.{At, Refused}
-use Rattle.image_reading.specs.declared.Walk.{Walk}
+use Rattle.image_reading.specs.Walk.{Walk, walk, ends_at}
+use Rattle.std.specs.Prelude.{Ok, Err}
 use Rattle.image_reading.proofs.WalkLaws.{walk-accepted}
 use Rattle.lent.specs.Check.{contents_on}
 use Rattle.refusal.specs.Outcome.{accepted}
@@ -66,7 +65,7 @@ header-good xs zero = go (choice (ltb (length xs) 4)) (choice (header_holds 1 32
 -- ---- the checks behind it
 
 pub record ExaminedGood (n : ℕ) (l : List ℕ) : Type 0 where
-  pub walks : walk header_length depth_width n l ≡ At (image_end header_length depth_width n l)
+  pub walks : walk header_length depth_width n l ≡ Ok (image_end header_length depth_width n l)
   pub walkable : Walkable header_length depth_width n l
   pub no_more : length l < image_end header_length depth_width n l + 8
   pub pad : number (drop (image_end header_length depth_width n l) l) ≡ 0
@@ -76,7 +75,7 @@ pub examined-good : (n : ℕ) (l : List ℕ) → n ≤ 16 → (examined header_l
 unfolding examined after_walk ends_at
 examined-good n l few zero = go (walk header_length depth_width n l) refl zero
   where
-    good : (q : ℕ) → walk header_length depth_width n l ≡ At q → Choice (ends_at l q)
+    good : (q : ℕ) → walk header_length depth_width n l ≡ Ok q → Choice (ends_at l q)
         → (cond (ends_at l q) (contents_on n (tables_in header_length depth_width n l)) (why 12 0 0)).number ≡ 0
         → ExaminedGood n l
     good q w (no! e) z = let y : ◌≡◌ {A = ℕ} 12 0 = rw e at z in absurd (omega arith)
@@ -93,8 +92,8 @@ examined-good n l few zero = go (walk header_length depth_width n l) refl zero
         }
 
     go : (w : Walk) → walk header_length depth_width n l ≡ w → (after_walk header_length depth_width n l w).number ≡ 0 → ExaminedGood n l
-    go (At q) e z = good q e (choice (ends_at l q)) z
-    go (Refused r) e z = clash (eq-eqb (why_of r).number 0 z) (never-0 r)
+    go (Ok q) e z = good q e (choice (ends_at l q)) z
+    go (Err r) e z = clash (eq-eqb (why_of r).number 0 z) (never-0 r)
 
 -- ---- an accepted restore
 

@@ -19,7 +19,7 @@ use Rattle.image.proofs.Whole.{version-read, header_read, count-read, spare-read
 use Rattle.image_reading.specs.Examine.{after_walk, examined}
 use Rattle.image_reading.specs.Header.{fields_of, header_holds, header_of}
 use Rattle.image_reading.specs.Walk.{walk, ends_at}
-use Rattle.image_reading.specs.declared.Walk.TheVariants.{At}
+use Rattle.std.specs.Prelude.{Ok}
 use Rattle.image_reading.proofs.WalkLaws.{walk-goes}
 use Rattle.lent.specs.Check.{contents_on}
 use Rattle.lent.proofs.CheckLaws.{is-sized, check-pairs}
@@ -113,7 +113,7 @@ module _ (n : ℕ) (low : 1 ≤ n) (few : n ≤ 16) (p : Network) (holds : sound
   end-in = rw (length-unpacked (image_of 1 header_length depth_width n (records_of n p)))
       (image-inside 1 header_length depth_width n (omega arith) (omega arith) (omega arith) (records_of n p) fit)
 
-  pub image-walk : walk header_length depth_width n (unpacked (image n p)) ≡ At (image_end header_length depth_width n (unpacked (image n p)))
+  pub image-walk : walk header_length depth_width n (unpacked (image n p)) ≡ Ok (image_end header_length depth_width n (unpacked (image n p)))
   image-walk = walk-goes header_length depth_width n (unpacked (image n p)) end-in few-in
 
   pub image-ends : ends_at (unpacked (image n p)) (image_end header_length depth_width n (unpacked (image n p))) ≡ true

@@ -4,7 +4,7 @@ use Prim.Native.Nat.{ℕ, suc, ◌+◌, ◌-◌, ◌*◌, ◌^◌, ◌≤◌}
 use native.Mathlib.Omega.{arith}
 use mathlib.Core.Bool.{true, false, ◌||◌}
 use mathlib.Core.List.{List}
-use mathlib.Core.Path.{◌≡◌, refl, sym, ap, ◌∙◌}
+use mathlib.Core.Path.{◌≡◌, refl, ap, ◌∙◌}
 use borrow.Author.Tests.{eq-eqb, ne_eqb, leb-true, ltb-false, le-ltb, lt-ltb, le-leb}
 use lib.Dec.{leb, ltb}
 use lib.ListN.{length}
@@ -20,19 +20,13 @@ use Rattle.image_reader.specs.Fields.{stands_in}
 use Rattle.image_reader.specs.Record.{record_in, node_inside, node_on, unread}
 use Rattle.image_reading.specs.Examine.{examined}
 use Rattle.image_reading.specs.inner.Cells.{Walkable}
-use Rattle.image_reading.specs.Header.{header_of}
-use Rattle.image_reading.specs.inner.Answers.{said_header}
+use Rattle.image_reading.specs.Header.{header_of, no_fields}
 use Rattle.image_reading.specs.declared.Fields.{Fields}
-use Rattle.image_reading.specs.declared.Header.TheVariants.{Good}
-use Rattle.image_reading.specs.declared.Header.{Header}
-use Rattle.lent.specs.Check.{said_check}
-use Rattle.lent.specs.declared.Checked.{Checked}
 use Rattle.protocol.specs.Network.{Node, is_node}
 use Rattle.protocol.proofs.NodeLaws.{node-passes}
-use Rattle.lent.specs.declared.Checked.TheVariants as checks
 use Rattle.refusal.specs.Refusal.{why, why_of}
 use Rattle.refusal.specs.declared.Refusal.{Refusal}
-use Rattle.refusal.specs.Outcome.{Answered}
+use Rattle.refusal.specs.Outcome.{accepted, refused_with}
 use Rattle.refusal.specs.declared.Why.{Why}
 use Rattle.refusal.proofs.RefusalLaws.{never-0}
 use Rattle.tables.proofs.RowsLaws.{product_le}
@@ -55,31 +49,31 @@ node-is n k e = go (choice (ltb k 1)) (choice (ltb n k))
 
 -- ---- by what the header and the checks answer
 
-pub node-refused : (xs : List ℕ) (k place : ℕ) (row : List ℕ) {s : Answered Fields} → s ≡ header_of xs → (s.why.number ≡ 0 → ⊥) → {w : Why} → w ≡ s.why
-    → unread w row ≡ read_node_on xs k place row
+pub node-refused : (xs : List ℕ) (k place : ℕ) (row : List ℕ) (r : Refusal) → refused_with no_fields (why_of r) ≡ header_of xs
+    → unread (why_of r) row ≡ read_node_on xs k place row
 unfolding read_node_on node_headed
-node-refused xs k place row {s} e d q = rw (← e, ne_eqb s.why.number 0 d, q)
+node-refused xs k place row r e = rw (← e, never-0 r)
 
-pub node-headed : (xs : List ℕ) (k place : ℕ) (row : List ℕ) {h : Header} → said_header h ≡ header_of xs → {f : Fields} → h ≡ Good f
+pub node-headed : (xs : List ℕ) (k place : ℕ) (row : List ℕ) {f : Fields} → accepted f ≡ header_of xs
     → node_sized f.length f.n (unpacked xs) k place row ≡ read_node_on xs k place row
 unfolding read_node_on node_headed
-node-headed xs k place row e q = ap (node_headed (unpacked xs) k place row) (ap said_header (sym q) ∙ e)
+node-headed xs k place row e = ap (node_headed (unpacked xs) k place row) e
 
 module _ (h n : ℕ) (l : List ℕ) (k place : ℕ) (row : List ℕ) where
   pub node-sizes : (length row ≡ n * height_size → ⊥) → unread (why 1 0 0) row ≡ node_sized h n l k place row
   unfolding node_sized
   node-sizes d = rw (ne_eqb (length row) (n * height_size) d)
 
-  module _ (wide : length row ≡ n * height_size) {r : Checked} (answers : said_check r ≡ examined header_length depth_width n l) where
-    by : {x : Checked} → r ≡ x → node_examined h n l k place row (said_check x) ≡ node_sized h n l k place row
+  module _ (wide : length row ≡ n * height_size) where
+    by : {w : Why} → w ≡ examined header_length depth_width n l → node_examined h n l k place row w ≡ node_sized h n l k place row
     unfolding node_sized
-    by e = rw (eq-eqb (length row) (n * height_size) wide, ← answers, e)
+    by e = rw (eq-eqb (length row) (n * height_size) wide, ← e)
 
-    pub node-faulty : {why : Refusal} → r ≡ checks.Refused why → unread (why_of why) row ≡ node_sized h n l k place row
+    pub node-faulty : (r : Refusal) → why_of r ≡ examined header_length depth_width n l → unread (why_of r) row ≡ node_sized h n l k place row
     unfolding node_examined
-    node-faulty {why} e = rw (never-0 why) at (by e)
+    node-faulty r e = rw (never-0 r) at (by e)
 
-    pub node-sound : r ≡ checks.Sound → node_placed h n l k place row ≡ node_sized h n l k place row
+    pub node-sound : why 0 0 0 ≡ examined header_length depth_width n l → node_placed h n l k place row ≡ node_sized h n l k place row
     unfolding node_examined
     node-sound e = by e
 

@@ -3,17 +3,9 @@
 use Rattle.std.specs.Prelude.{ℕ, List}
 use Rattle.image.specs.Image.{image}
 use Rattle.lent.specs.Check.{check_on}
-use Rattle.refusal.specs.Outcome.{Answered, Outcome, accepted, put_checked, refused_with}
-use Rattle.refusal.specs.Refusal.{why_of}
+use Rattle.refusal.specs.Outcome.{Answered, Outcome, put_checked}
 use Rattle.tables.specs.Load.{load}
 use Rattle.tables.specs.Tables.{Tables}
-use Rattle.image_snapshot.specs.declared.Saved.TheVariants.{Written, Refused}
-use Rattle.image_snapshot.specs.declared.Saved.{Saved}
-
--- 0 and the image's length in bytes; or 1, 2 or 18 with the pair, 14
-abbrev pub said_save : Saved → Answered ℕ
-said_save (Written size) = accepted size
-said_save (Refused r) = refused_with 0 (why_of r)
 
 -- 1, 2 or 18 by the check of the tables, else 14 or the image
 unfoldable pub save_on : ℕ → Tables → List ℕ → Outcome (Answered ℕ) (List ℕ)

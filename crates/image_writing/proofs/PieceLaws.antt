@@ -36,10 +36,10 @@ unfolding rows
 summed-start f n = record { low = omega arith; high = omega arith; is = refl }
 
 module _ (f : ℕ → List ℕ) (n sum v : ℕ) (summed : Summed f n sum v) where
-  pub summed-next : v ≤ n → {s : ℕ} → s ≡ sum + length (f v) → Summed f n s (v + 1)
+  pub summed-next : v < n + 1 → {s : ℕ} → s ≡ sum + length (f v) → Summed f n s (v + 1)
   summed-next h e = record { low = omega arith; high = omega arith; is = omega (arith, e, summed.is, length_more f v summed.low) }
 
-  pub summed-all : n < v → sum ≡ length (rows n f)
+  pub summed-all : n + 1 ≤ v → sum ≡ length (rows n f)
   summed-all h = let e : v - 1 ≡ n = omega (arith, summed.high) in summed.is ∙ ap (λ (k : ℕ). length (rows k f)) e
 
 -- ---- the room for a piece
@@ -76,12 +76,12 @@ laid-start f n xs at b h =
 
 module _ (f : ℕ → List ℕ) (n : ℕ) (xs : List ℕ) (at : ℕ) (ys : List ℕ) (place v : ℕ) (laid : Laid f n xs at ys place v) where
   -- all pieces are laid
-  pub laid-all : n < v → (ys ≡ written xs at (rows n f)) × (place ≡ at + length (rows n f))
+  pub laid-all : n + 1 ≤ v → (ys ≡ written xs at (rows n f)) × (place ≡ at + length (rows n f))
   laid-all h =
       let e : v - 1 ≡ n = omega (arith, laid.high) in
       (laid.bytes ∙ ap (λ (k : ℕ). written xs at (rows k f)) e, laid.behind ∙ ap (λ (k : ℕ). at + length (rows k f)) e)
 
-  module _ (h : v ≤ n) where
+  module _ (h : v < n + 1) where
     -- piece v is empty, and nothing was written
     pub laid-skip : f v ≡ [] → {zs : List ℕ} {q : ℕ} → zs ≡ ys → q ≡ place → Laid f n xs at zs q (v + 1)
     laid-skip none {zs} {q} ez eq =
@@ -99,8 +99,8 @@ module _ (f : ℕ → List ℕ) (n : ℕ) (xs : List ℕ) (at : ℕ) (ys : List 
       -- there is room for piece v
       pub laid-room : Inside ys place (length (f v))
       laid-room = record {
-        small = omega (arith, piece-in f v n laid.low h, laid.behind, room.small);
-        inside = omega (arith, piece-in f v n laid.low h, laid.behind, laid.same, room.inside);
+        small = omega (arith, piece-in f v n laid.low (omega arith), laid.behind, room.small);
+        inside = omega (arith, piece-in f v n laid.low (omega arith), laid.behind, laid.same, room.inside);
       }
 
       -- piece v was written

@@ -13,13 +13,11 @@ fn cells_from_length(depth: u8, n: u32, u: u32, channels: &[u32]) -> usize
 {
     let w = image::widths::message(depth);
     let mut sum: usize = 0;
-    let mut v = 1;
-    while v <= n {
+    for v in 1..n + 1 {
         if u != v {
             let cell = tables::rows::channel(n, u, v, channels);
             sum += image::WAITING_WIDTH + (tables::cells::waiting(cell) as usize) * w;
         }
-        v += 1;
     }
     sum
 }
@@ -30,10 +28,8 @@ pub fn cells_length(depth: u8, n: u32, channels: &[u32]) -> usize
     ensures { (result ≡ length (cells_bits depth n channels.now)) × (result ≤ n * (n * 1156)) }
 {
     let mut sum: usize = 0;
-    let mut u = 1;
-    while u <= n {
+    for u in 1..n + 1 {
         sum += cells_from_length(depth, n, u, channels);
-        u += 1;
     }
     sum
 }
@@ -46,8 +42,7 @@ fn put_cells_from(buf: &mut [u8], at: usize, depth: u8, n: u32, u: u32, channels
         × (result ≡ at + length (cells_from_bits depth n channels.now u)) }
 {
     let mut place = at;
-    let mut v = 1;
-    while v <= n {
+    for v in 1..n + 1 {
         if u != v {
             place = image::cells::put_cell(
                 buf,
@@ -56,7 +51,6 @@ fn put_cells_from(buf: &mut [u8], at: usize, depth: u8, n: u32, u: u32, channels
                 tables::rows::channel(n, u, v, channels),
             );
         }
-        v += 1;
     }
     place
 }
@@ -69,10 +63,8 @@ pub fn put_cells(buf: &mut [u8], at: usize, depth: u8, n: u32, channels: &[u32])
         × (result ≡ at + length (cells_bits depth n channels.now)) }
 {
     let mut place = at;
-    let mut u = 1;
-    while u <= n {
+    for u in 1..n + 1 {
         place = put_cells_from(buf, place, depth, n, u, channels);
-        u += 1;
     }
     place
 }

@@ -31,11 +31,9 @@ pub fn put_nodes(buf: &mut [u8], at: usize, depth: u8, n: u32, nodes: &[u32])
     let k = n as usize;
     let w = image::widths::node(depth, k);
     let mut place = at;
-    let mut u = 1;
-    while u <= n {
+    for u in 1..n + 1 {
         image::rows::put_row(buf, place, depth, k, tables::rows::node(n, u, nodes));
         place += w;
-        u += 1;
     }
 }
 

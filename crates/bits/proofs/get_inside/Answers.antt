@@ -1,4 +1,5 @@
 use native.Mathlib.Omega.{arith}
+use mathlib.Core.Path.{refl}
 use Rattle.bits.proofs.Fields.{total-take-le}
 use Rattle.bits.proofs.Seeing.{seen_start, seen-near, seen_more, seen-again, seen_as}
 use Rattle.bits.proofs.get_inside.Goals as goal
@@ -14,20 +15,19 @@ overflow_add-start c =
 
 pub load_at-seen-requires-else-used-w-lt64 : goal.load_at-seen-requires-else-used-w-lt64
 load_at-seen-requires-else-used-w-lt64 c =
-    seen-near c.loop-k.invariant c.requires.1 c.requires.0 c.requires.2 c.loop-k-test.true c.wide-w.ensures
+    seen-near c.loop-k.invariant c.requires.1 c.requires.0 c.requires.2 c.loop-k-test.true refl
 
 pub loop-k-preserved : goal.loop-k-preserved
 loop-k-preserved c =
     let l = c.loop-k in
-    let w = c.wide-w in
     let more = c.loop-k-test.true in
     elim c.if-used-w-lt64.branch [
       | then-used-w-lt64 b ↦
-          seen_as (seen_more l.invariant c.requires.1 c.requires.0 c.requires.2 more w.ensures b.cut.result b.if-used-w-lt64.true b.cut.ensures)
+          seen_as (seen_more l.invariant c.requires.1 c.requires.0 c.requires.2 more refl b.cut.result b.if-used-w-lt64.true b.cut.ensures)
           b.values-is b.start-is b.seen-is b.used-is
       | else-used-w-lt64 b ↦
           let x = b.load_at-seen-else-used-w-lt64 in
           let y = b.cut-else-used-w-lt64 in
-          seen_as (seen-again l.invariant c.requires.1 c.requires.0 c.requires.2 more w.ensures x.result y.result x.ensures y.ensures)
+          seen_as (seen-again l.invariant c.requires.1 c.requires.0 c.requires.2 more refl x.result y.result x.ensures y.ensures)
           b.values-is b.start-is b.seen-is b.used-is
     ]

@@ -1,12 +1,6 @@
 -- `bits::get_inside` meets its contract. The invariant (`Seen`): the first values are got, and the 64 bits looked at hold the next field or are used up.
--- The measure is how many fields are left.
-use Prim.Native.Nat.{◌-◌}
-use lib.ListN.{length}
 use Rattle.bits.proofs.Seeing.{Seen}
 use Rattle.bits.proofs.get_inside.Given as goal
 
 abbrev pub invariant-loop-k : goal.invariant-loop-k
 invariant-loop-k l = Seen l.widths l.initial.values l.bytes l.at l.values l.start l.seen l.used l.k
-
-abbrev pub decreases-loop-k : goal.decreases-loop-k
-decreases-loop-k l = length l.widths - l.k

@@ -10,13 +10,7 @@ use Rattle.bits.proofs.get_near_end.Goals as goal
 
 pub loop-k-init : goal.loop-k-init
 unfolding total gathered
-loop-k-init c = (omega arith, (omega arith, (refl, refl)))
-
-pub bounds-widths-k : goal.bounds-widths-k
-bounds-widths-k c = omega arith
-
-pub wide-w-requires : goal.wide-w-requires
-wide-w-requires c = omega arith
+loop-k-init c = (omega arith, (refl, refl))
 
 pub get-requires : goal.get-requires
 get-requires c =
@@ -26,22 +20,10 @@ get-requires c =
     let r = c.requires.0.narrow k in
     omega arith
 
-pub offset_bounds-values-k : goal.offset_bounds-values-k
-offset_bounds-values-k c = omega arith
-
-pub bounds-values-k : goal.bounds-values-k
-bounds-values-k c = omega arith
-
 pub overflow_add-place : goal.overflow_add-place
 overflow_add-place c =
     let a = c.args in
     omega (arith, total-in a.widths.now c.loop-k.k (omega arith))
-
-pub overflow_add-k : goal.overflow_add-k
-overflow_add-k c = omega arith
-
-pub loop-k-smaller : goal.loop-k-smaller
-loop-k-smaller c = omega arith
 
 pub loop-k-preserved : goal.loop-k-preserved
 loop-k-preserved c =
@@ -50,20 +32,13 @@ loop-k-preserved c =
     let ws = a.widths.now in
     let h : l.k < length ws = omega arith in
     let e : c.get.result ≡ field a.bytes.now (a.at + total (take l.k ws)) (get_or ws l.k 0) =
-    c.get.ensures ∙ ap₂ (field a.bytes.now) l.invariant.1.0 c.wide-w.ensures in (
-      omega arith,
+    c.get.ensures ∙ ap (λ (p : ℕ). field a.bytes.now p (get_or ws l.k 0)) l.invariant.0 in (
+      omega (arith, total-more ws l.k h),
       (
-        omega (arith, total-more ws l.k h),
-        (
-          length-set l.values l.k c.get.result ∙ l.invariant.1.1.0,
-          ap (set l.values l.k) e
-              ∙ get-more a.bytes.now a.at ws a.values.now l.values l.k h c.requires.1 l.invariant.1.1.1,
-        ),
+        length-set l.values l.k c.get.result ∙ l.invariant.1.0,
+        ap (set l.values l.k) e ∙ get-more a.bytes.now a.at ws a.values.now l.values l.k h c.requires.1 l.invariant.1.1,
       ),
     )
-
-pub shape_of-values : goal.shape_of-values
-shape_of-values c = c.loop-k.invariant.1.1.0
 
 pub returns : goal.returns
 returns c =
@@ -71,6 +46,6 @@ returns c =
     let l = c.loop-k in
     let bs = drop a.at (unpacked a.bytes.now) in
     let z : length a.values.now ≤ l.k = omega arith in
-    l.invariant.1.1.1
+    l.invariant.1.1
     ∙ ap₂ (λ (x y : List ℕ). gathered x bs ++ y) (take_all l.k a.widths.now (omega arith)) (drop_of_length-le a.values.now z)
     ∙ append-nil (gathered a.widths.now bs)

@@ -12,54 +12,27 @@ pub loop-j-init : goal.loop-j-init
 unfolding word_bits
 loop-j-init c =
     let a = c.args in
-    (omega arith, (refl, sym (written_none a.buf.now a.at (λ i. (c.type_inv.buf i).fits) (omega arith))))
-
-pub overflow_mul-j : goal.overflow_mul-j
-overflow_mul-j c = omega arith
-
-pub overflow_add-at : goal.overflow_add-at
-overflow_add-at c = omega arith
-
-pub offset_bounds-full-j : goal.offset_bounds-full-j
-offset_bounds-full-j c = omega arith
-
-pub bounds-full-j : goal.bounds-full-j
-bounds-full-j c = omega arith
+    (refl, sym (written_none a.buf.now a.at (λ i. (c.type_inv.buf i).fits) (omega arith)))
 
 pub put_bytes-requires : goal.put_bytes-requires
 put_bytes-requires c =
     let l = c.loop-j in
     let b = (c.type_inv.full l.j).fits in
-    ((omega arith, omega arith), (omega (arith, l.invariant.1.0), b))
-
-pub overflow_add-j : goal.overflow_add-j
-overflow_add-j c = omega arith
-
-pub loop-j-smaller : goal.loop-j-smaller
-loop-j-smaller c = omega arith
+    ((omega arith, omega arith), (omega (arith, l.invariant.0), b))
 
 pub loop-j-preserved : goal.loop-j-preserved
 loop-j-preserved c =
     let a = c.args in
     let l = c.loop-j in
     let e = c.put_bytes.ensures
-    ∙ put_word a.buf.now l.buf a.at a.full.now l.j (omega (arith, c.loop-j-test.true)) l.invariant.1.1 in
-    (omega arith, (ap length e ∙ length-written a.buf.now a.at (word_bits (l.j + 1) a.full.now), e))
-
-pub overflow_mul-n : goal.overflow_mul-n
-overflow_mul-n c = omega arith
-
-pub overflow_add-at-2 : goal.overflow_add-at-2
-overflow_add-at-2 c = omega arith
-
-pub put_long-requires : goal.put_long-requires
-put_long-requires c = omega (arith, c.loop-j.invariant.1.0)
+    ∙ put_word a.buf.now l.buf a.at a.full.now l.j (omega (arith, c.loop-j-test.true)) l.invariant.1 in
+    (ap length e ∙ length-written a.buf.now a.at (word_bits (l.j + 1) a.full.now), e)
 
 pub shape_of-buf : goal.shape_of-buf
 shape_of-buf c =
     let a = c.args in
     let l = c.loop-j in
-    ap length c.put_long.ensures ∙ length-written l.buf (a.at + 64 * a.n) (bits a.count a.held) ∙ l.invariant.1.0
+    ap length c.put_long.ensures ∙ length-written l.buf (a.at + 64 * a.n) (bits a.count a.held) ∙ l.invariant.0
 
 pub returns : goal.returns
 returns c =
@@ -68,4 +41,4 @@ returns c =
     let j : l.j ≡ a.n = omega (arith, c.loop-j-test.false) in
     c.put_long.ensures
     ∙ put_rest a.buf.now l.buf a.at a.full.now a.n a.count a.held (omega arith)
-    (l.invariant.1.1 ∙ ap (λ (m : ℕ). written a.buf.now a.at (word_bits m a.full.now)) j)
+    (l.invariant.1 ∙ ap (λ (m : ℕ). written a.buf.now a.at (word_bits m a.full.now)) j)

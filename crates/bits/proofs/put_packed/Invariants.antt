@@ -1,13 +1,8 @@
 -- `bits::put_packed` meets its contract. The invariant: the first numbers are put, end to end.
--- The measure is how many numbers are left.
-use Prim.Native.Nat.{◌-◌, ◌≤◌}
 use mathlib.Core.Path.{◌≡◌}
 use lib.ListN.{length}
 use Rattle.bits.specs.inner.Written.{written, word_bits}
 use Rattle.bits.proofs.put_packed.Given as goal
 
 abbrev pub invariant-loop-j : goal.invariant-loop-j
-invariant-loop-j l = (l.j ≤ l.n) × ((length l.buf ≡ length l.initial.buf) × (l.buf ≡ written l.initial.buf l.at (word_bits l.j l.full)))
-
-abbrev pub decreases-loop-j : goal.decreases-loop-j
-decreases-loop-j l = l.n - l.j
+invariant-loop-j l = (length l.buf ≡ length l.initial.buf) × (l.buf ≡ written l.initial.buf l.at (word_bits l.j l.full))

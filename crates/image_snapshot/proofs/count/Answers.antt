@@ -1,13 +1,15 @@
 -- `image_snapshot::count` meets its contract: what the header says, its n alone.
-use mathlib.Core.Path.{sym, ap, ◌∙◌}
-use Rattle.image_reading.specs.inner.Answers.{said_header}
+use mathlib.Core.Path.{ap}
+use Rattle.std.proofs.lemmas.Result.{err_from_is_err_and}
 use Rattle.image_snapshot.specs.Count.{count_headed, count_on}
 use Rattle.image_snapshot.proofs.count.Goals as goal
 
-pub returns-in-Good : goal.returns-in-Good
+pub returns-in_err-fields : goal.returns-in_err-fields
 unfolding count_on
-returns-in-Good c = ap count_headed (ap said_header (sym c.in-Good.is) ∙ c.decode.ensures)
+returns-in_err-fields c =
+    let p = err_from_is_err_and c.from_residual.result c.from_residual.ensures.1 in
+    rw (p.1, p.2) (ap count_headed c.in_err-fields.ensures)
 
-pub returns-in-Refused : goal.returns-in-Refused
+pub returns : goal.returns
 unfolding count_on
-returns-in-Refused c = ap count_headed (ap said_header (sym c.in-Refused.is) ∙ c.decode.ensures)
+returns c = ap count_headed c.in_ok-fields.ensures

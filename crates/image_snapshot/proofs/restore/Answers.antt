@@ -1,21 +1,18 @@
 -- `image_snapshot::restore` meets its contract: 10 or 11 by the header, or the restore of an image of its n nodes.
-use mathlib.Core.Path.{refl, ◌∙◌}
-use Rattle.image_snapshot.proofs.RestoreLaws.{refused, headed-refused, headed-good, good-fields}
+use mathlib.Core.Path.{◌∙◌}
+use Rattle.std.proofs.lemmas.Result.{err_from_is_err_and}
+use Rattle.image_snapshot.proofs.RestoreLaws.{headed-refused, headed-good, good-fields}
 use Rattle.image_snapshot.proofs.restore.Goals as goal
 
-pub turned_away-requires : goal.turned_away-requires
-turned_away-requires c = refused c.decode-h.result (rw c.in_default.is refl)
-
-pub returns-in_default : goal.returns-in_default
-returns-in_default c =
-    let h = c.decode-h in
-    headed-refused _ _ h.ensures (refused h.result (rw c.in_default.is refl)) c.turned_away.ensures
+pub returns-in_err-fields : goal.returns-in_err-fields
+returns-in_err-fields c =
+    let p = err_from_is_err_and c.from_residual.result c.from_residual.ensures.1 in
+    rw (p.1, p.2) (headed-refused _ _ _ c.in_err-fields.ensures)
 
 pub headed-requires : goal.headed-requires
 headed-requires c =
-    let g = good-fields _ c.decode-h.ensures c.in-Good.is in
+    let g = good-fields _ c.in_ok-fields.ensures in
     (g.low, g.few)
 
 pub returns : goal.returns
-returns c =
-    c.headed.ensures ∙ headed-good _ _ c.decode-h.ensures c.in-Good.is
+returns c = c.headed.ensures ∙ headed-good _ _ c.in_ok-fields.ensures

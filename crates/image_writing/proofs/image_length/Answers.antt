@@ -5,9 +5,6 @@ use mathlib.Core.Path.{sym, ap₂, ◌∙◌}
 use Rattle.image_writing.proofs.ImageLaws.{depth-16, counts, end-le, length-image}
 use Rattle.image_writing.proofs.image_length.Goals as goal
 
-pub node-requires : goal.node-requires
-node-requires c = c.requires.size.few
-
 pub overflow_mul-end : goal.overflow_mul-end
 overflow_mul-end c = rw c.node.ensures (omega (arith, end-le _ _ c.requires))
 

@@ -15,9 +15,6 @@ put_nodes-requires c =
     let room = nodes-room _ _ c.requires.0 c.args.out.now c.requires.1 _ c.put_header.auto.buf in
     (depth-16, size.few, size.nodes, room)
 
-pub node-requires : goal.node-requires
-node-requires c = c.requires.0.size.few
-
 pub overflow_mul-start : goal.overflow_mul-start
 overflow_mul-start c =
     rw c.node.ensures (omega (arith, nodes-small 16 c.args.n (omega arith) c.requires.0.size.few))

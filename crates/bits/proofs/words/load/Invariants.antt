@@ -1,12 +1,8 @@
 -- `bits::words::load` meets its contract. The invariant: the value is that of the bytes read so far.
--- The measure is how many bytes are left.
-use Prim.Native.Nat.{◌-◌, ◌*◌, ◌≤◌}
+use Prim.Native.Nat.{◌*◌}
 use mathlib.Core.Path.{◌≡◌}
 use Rattle.bits.specs.Bits.{field}
 use Rattle.bits.proofs.words.load.Given as goal
 
 abbrev pub invariant-loop-k : goal.invariant-loop-k
-invariant-loop-k l = (l.k ≤ 8) × (l.v ≡ field l.bytes (8 * l.i) (8 * l.k))
-
-abbrev pub decreases-loop-k : goal.decreases-loop-k
-decreases-loop-k l = 8 - l.k
+invariant-loop-k l = l.v ≡ field l.bytes (8 * l.i) (8 * l.k)

@@ -1,7 +1,7 @@
 -- `bits::words::load_at` meets its contract: eight bytes without their first bits, and the first bits of the ninth.
 use Prim.Native.Nat.{ℕ, ◌+◌, ◌-◌, ◌*◌, ◌/◌, ◌%◌, ◌^◌}
 use native.Mathlib.Omega.{arith}
-use mathlib.Core.Path.{◌≡◌, ap₂, ◌∙◌}
+use mathlib.Core.Path.{◌≡◌, refl, ap₂, ◌∙◌}
 use Rattle.std.proofs.Common.{List, length, get_or, ◌≤◌, ◌<◌}
 use Rattle.bits.specs.Bits.{field}
 use Rattle.bits.proofs.Bytes.{field_lt}
@@ -18,10 +18,10 @@ across xs at first last h small ef el =
 pub overflow_add-result : goal.overflow_add-result
 overflow_add-result c =
     let a = c.args in
-    let e = across a.bytes.now a.at c.load-first.result c.long-last.result (omega arith) (λ i. (c.type_inv.bytes i).fits) c.load-first.ensures c.long-last.ensures in
+    let e = across a.bytes.now a.at c.load-first.result _ (omega arith) (λ i. (c.type_inv.bytes i).fits) c.load-first.ensures refl in
     record { fits = rw e (field_lt c.args.bytes.now c.args.at 64 (omega arith)) }
 
 pub returns : goal.returns
 returns c =
     let a = c.args in
-    across a.bytes.now a.at c.load-first.result c.long-last.result (omega arith) (λ i. (c.type_inv.bytes i).fits) c.load-first.ensures c.long-last.ensures
+    across a.bytes.now a.at c.load-first.result _ (omega arith) (λ i. (c.type_inv.bytes i).fits) c.load-first.ensures refl

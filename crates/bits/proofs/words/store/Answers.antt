@@ -10,21 +10,18 @@ use Rattle.bits.proofs.words.store.Goals as goal
 pub loop-k-init : goal.loop-k-init
 loop-k-init c =
     let a = c.args in
-    (omega arith, (refl, ((λ j. (c.type_inv.buf j).fits), put-none a.buf.now (8 * a.i) (8 * a.m) a.v (omega arith))))
+    (refl, ((λ j. (c.type_inv.buf j).fits), put-none a.buf.now (8 * a.i) (8 * a.m) a.v (omega arith)))
 
 pub loop-k-preserved : goal.loop-k-preserved
 loop-k-preserved c =
     let a = c.args in
     let l = c.loop-k in
     let y = c.byte_at.result in (
-      omega arith,
+      length-set l.buf (a.i + l.k) y ∙ l.invariant.0,
       (
-        (length-set l.buf (a.i + l.k) y ∙ l.invariant.1.0),
-        (
-          below_set 256 l.buf (a.i + l.k) y c.byte_at.type_inv l.invariant.1.1.0,
-          store-turn a.buf.now l.buf a.i a.m l.k a.v y (omega arith) (omega arith) l.invariant.1.0 l.invariant.1.1.1
-              c.byte_at.ensures,
-        ),
+        below_set 256 l.buf (a.i + l.k) y c.byte_at.type_inv l.invariant.1.0,
+        store-turn a.buf.now l.buf a.i a.m l.k a.v y (omega arith) (omega arith) l.invariant.0 l.invariant.1.1
+            c.byte_at.ensures,
       ),
     )
 
@@ -32,4 +29,4 @@ pub returns : goal.returns
 returns c =
     let a = c.args in
     let l = c.loop-k in
-    put_all a.buf.now l.buf (8 * a.i) (8 * a.m) a.v (8 * l.k) l.invariant.1.0 l.invariant.1.1.0 (omega arith) l.invariant.1.1.1
+    put_all a.buf.now l.buf (8 * a.i) (8 * a.m) a.v (8 * l.k) l.invariant.0 l.invariant.1.0 (omega arith) l.invariant.1.1

@@ -2,18 +2,12 @@
 use Prim.Native.Nat.{ℕ, ◌+◌, ◌*◌}
 use native.Mathlib.Omega.{arith}
 use mathlib.Core.Path.{◌≡◌, sym, ap, ap₂, ◌∙◌}
-use lib.ListN.{length, length-set}
+use lib.ListN.{length}
 use Rattle.bits.specs.Bits.{unpacked, field}
 use Rattle.image.specs.Places.{field_in}
 use Rattle.image.proofs.PartCalls.{cell-got, behind-count}
 use Rattle.image.proofs.PartLaws.{length-cell-from}
 use Rattle.image.proofs.cells.get_cell.Goals as goal
-
-pub slice_bounds-get_messages-count : goal.slice_bounds-get_messages-count
-slice_bounds-get_messages-count c = simp length-set (omega arith)
-
-pub slice_bounds-get_messages-start : goal.slice_bounds-get_messages-start
-slice_bounds-get_messages-start c = simp length-set (omega arith)
 
 pub get_messages-requires : goal.get_messages-requires
 get_messages-requires c =

@@ -41,9 +41,6 @@ extended-requires c =
     let depth = ap (λ (l : List ℕ). get_or (l ++ drop 7 a.words.now) 3 0) g ∙ depth-got a.depth bs a.words.now in
     ((c.requires.1.1, omega (arith, r.narrow 3, d)), rw depth q)
 
-pub place-requires : goal.place-requires
-place-requires c = omega arith
-
 pub overflow_add-place : goal.overflow_add-place
 overflow_add-place c =
     omega (arith, c.requires.0.small, c.place.ensures, height-place c.args.depth, height-end c.args.depth)

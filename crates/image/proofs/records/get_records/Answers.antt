@@ -1,19 +1,10 @@
 use native.Mathlib.Omega.{arith}
 use mathlib.Core.Path.{refl}
-use Rattle.image.proofs.PartTurns.{words-in, get-start, get-done, get-fits, get-room, get-next}
+use Rattle.image.proofs.PartTurns.{words-in, get-start, get-fits, get-room, get-next}
 use Rattle.image.proofs.records.get_records.Goals as goal
 
 pub loop-k-init : goal.loop-k-init
 loop-k-init c = get-start c.requires
-
-pub overflow_mul-a : goal.overflow_mul-a
-overflow_mul-a c = omega (arith, words-in c.requires c.loop-k-test.true)
-
-pub overflow_add-e : goal.overflow_add-e
-overflow_add-e c = omega (arith, words-in c.requires c.loop-k-test.true)
-
-pub offset_bounds-words-a : goal.offset_bounds-words-a
-offset_bounds-words-a c = omega (arith, words-in c.requires c.loop-k-test.true)
 
 pub slice_bounds-get_record-count : goal.slice_bounds-get_record-count
 slice_bounds-get_record-count c = omega (arith, words-in c.requires c.loop-k-test.true)
@@ -33,20 +24,8 @@ overflow_add-place c =
     let l = c.loop-k in
     omega (arith, get-fits c.requires l.invariant c.loop-k-test.true)
 
-pub overflow_add-k : goal.overflow_add-k
-overflow_add-k c = omega arith
-
-pub loop-k-smaller : goal.loop-k-smaller
-loop-k-smaller c = omega arith
-
 pub loop-k-preserved : goal.loop-k-preserved
 loop-k-preserved c =
     let l = c.loop-k in
     get-next c.requires l.invariant c.loop-k-test.true refl refl
     c.get_record.ensures
-
-pub shape_of-words : goal.shape_of-words
-shape_of-words c = c.loop-k.invariant.size
-
-pub returns : goal.returns
-returns c = get-done c.requires c.loop-k.invariant c.loop-k-test.false

@@ -27,9 +27,6 @@ put_fields-requires c =
       omega (arith, length-widths a.depth 7 (omega arith)),
     )
 
-pub place-requires : goal.place-requires
-place-requires c = omega arith
-
 pub overflow_add-place : goal.overflow_add-place
 overflow_add-place c =
     omega (arith, c.requires.0.small, c.place.ensures, height-place c.args.depth, height-end c.args.depth)

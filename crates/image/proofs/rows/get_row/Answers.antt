@@ -1,7 +1,7 @@
 -- `image::rows::get_row` meets its contract: three words are set before the heights.
 use native.Mathlib.Omega.{arith}
 use mathlib.Core.Path.{sym, ap, ◌∙◌}
-use lib.ListN.{length, length-set}
+use lib.ListN.{length}
 use Rattle.bits.specs.Bits.{unpacked}
 use Rattle.image.specs.Widths.{node_width}
 use Rattle.image.proofs.PartCalls.{row-got, row-rest}
@@ -16,21 +16,9 @@ pub get-requires-2 : goal.get-requires-2
 unfolding node_width
 get-requires-2 c = omega arith
 
-pub bounds-row-1 : goal.bounds-row-1
-bounds-row-1 c = simp length-set (omega arith)
-
 pub get-requires-3 : goal.get-requires-3
 unfolding node_width
 get-requires-3 c = omega arith
-
-pub bounds-row-2 : goal.bounds-row-2
-bounds-row-2 c = simp length-set (omega arith)
-
-pub slice_bounds-get_heights-count : goal.slice_bounds-get_heights-count
-slice_bounds-get_heights-count c = simp length-set (omega arith)
-
-pub slice_bounds-get_heights-start : goal.slice_bounds-get_heights-start
-slice_bounds-get_heights-start c = simp length-set (omega arith)
 
 pub get_heights-requires : goal.get_heights-requires
 get_heights-requires c =

@@ -14,39 +14,30 @@ next d k w end i ew few h e =
     ap₂ (λ (x : ℕ) (l : List ℕ). x + get_or l i 0) e ew ∙ sym (next_place d i (omega arith)) ∙ ap (field_place d) (sym (add-one i))
 
 pub loop-i-init : goal.loop-i-init
-loop-i-init c = (omega arith, sym (first-place c.args.depth))
-
-pub bounds-w-i : goal.bounds-w-i
-bounds-w-i c = omega arith
+loop-i-init c = sym (first-place c.args.depth)
 
 pub overflow_cast-end : goal.overflow_cast-end
 overflow_cast-end c =
     let w = c.fields-w in
     let l = c.loop-i in
-    let n = next c.args.depth c.args.k w.result l.end l.i w.ensures c.requires (omega arith) l.invariant.1 in
+    let n = next c.args.depth c.args.k w.result l.end l.i w.ensures c.requires (omega arith) l.invariant in
     omega (arith, n, place-le c.args.depth (l.i + 1), message-end c.args.depth)
 
 pub overflow_add-end : goal.overflow_add-end
 overflow_add-end c =
     let w = c.fields-w in
     let l = c.loop-i in
-    let n = next c.args.depth c.args.k w.result l.end l.i w.ensures c.requires (omega arith) l.invariant.1 in
+    let n = next c.args.depth c.args.k w.result l.end l.i w.ensures c.requires (omega arith) l.invariant in
     omega (arith, n, place-le c.args.depth (l.i + 1), message-end c.args.depth)
-
-pub overflow_add-i : goal.overflow_add-i
-overflow_add-i c = omega arith
-
-pub loop-i-smaller : goal.loop-i-smaller
-loop-i-smaller c = omega arith
 
 pub loop-i-preserved : goal.loop-i-preserved
 loop-i-preserved c =
     let w = c.fields-w in
     let l = c.loop-i in
-    (omega arith, next c.args.depth c.args.k w.result l.end l.i w.ensures c.requires (omega arith) l.invariant.1)
+    next c.args.depth c.args.k w.result l.end l.i w.ensures c.requires (omega arith) l.invariant
 
 pub returns : goal.returns
 returns c =
     let l = c.loop-i in
     let e : l.i ≡ c.args.k = omega arith in
-    l.invariant.1 ∙ ap (field_place c.args.depth) e
+    l.invariant ∙ ap (field_place c.args.depth) e

@@ -1,12 +1,7 @@
 -- `image::widths::place` meets its contract. The invariant: the sum so far is where the next field starts.
--- The measure is how many fields are left.
-use Prim.Native.Nat.{◌-◌, ◌≤◌}
 use mathlib.Core.Path.{◌≡◌}
 use Rattle.image.specs.Widths.{field_place}
 use Rattle.image.proofs.widths.place.Given as goal
 
 abbrev pub invariant-loop-i : goal.invariant-loop-i
-invariant-loop-i l = (l.i ≤ l.k) × (l.end ≡ field_place l.depth l.i)
-
-abbrev pub decreases-loop-i : goal.decreases-loop-i
-decreases-loop-i l = l.k - l.i
+invariant-loop-i l = l.end ≡ field_place l.depth l.i

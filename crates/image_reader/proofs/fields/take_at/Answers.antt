@@ -2,14 +2,14 @@
 use Rattle.image_reader.proofs.FieldLaws.{take-fits, take-refused, take-taken}
 use Rattle.image_reader.proofs.fields.take_at.Goals as goal
 
-pub returns-then-width-fits : goal.returns-then-width-fits
-returns-then-width-fits c = take-refused _ _ _ c.inside-fits.ensures c.if-width-fits.true
+pub field_at-requires : goal.field_at-requires
+field_at-requires c = let f = take-fits _ _ _ c.inside.ensures c.if-width-inside.false in (f.0, f.1.1)
 
-pub field_at-v-requires : goal.field_at-v-requires
-field_at-v-requires c = let f = take-fits _ _ _ c.inside-fits.ensures c.if-width-fits.false in (f.0, f.1.1)
-
-pub overflow_add-next : goal.overflow_add-next
-overflow_add-next c = record { fits = (take-fits _ _ _ c.inside-fits.ensures c.if-width-fits.false).1.0 }
+pub returns-then-width-inside : goal.returns-then-width-inside
+returns-then-width-inside c = (take-refused _ _ _ c.inside.ensures c.if-width-inside.true, tt)
 
 pub returns : goal.returns
-returns c = take-taken _ _ _ c.inside-fits.ensures _ c.field_at-v.ensures c.if-width-fits.false
+returns c = (
+  take-taken _ _ _ c.inside.ensures _ c.field_at.ensures c.if-width-inside.false,
+  (take-fits _ _ _ c.inside.ensures c.if-width-inside.false).1.0,
+)

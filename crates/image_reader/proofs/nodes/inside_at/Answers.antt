@@ -3,16 +3,16 @@ use Rattle.image_reader.proofs.RecordLaws.{node-short, node-inside, node-read}
 use Rattle.std.proofs.Common.{ap, not}
 use Rattle.image_reader.proofs.nodes.inside_at.Goals as goal
 
-pub returns-then-not-fits : goal.returns-then-not-fits
-returns-then-not-fits c = node-short _ _ _ _ (rw c.node-width.ensures at c.inside-fits.ensures) (ap not c.if-not-fits.true)
+pub returns-then-not-inside : goal.returns-then-not-inside
+returns-then-not-inside c = node-short _ _ _ _ (rw c.node-width.ensures at c.inside.ensures) (ap not c.if-not-inside.true)
 
-pub record_from-record-requires : goal.record_from-record-requires
-record_from-record-requires c =
-    let fits = rw c.node-width.ensures at c.inside-fits.ensures in
-    (c.requires.0, c.requires.1, node-inside _ _ _ c.args.row.now fits (ap not c.if-not-fits.false))
+pub record_from-requires : goal.record_from-requires
+record_from-requires c =
+    let fits = rw c.node-width.ensures at c.inside.ensures in
+    (c.requires.0, c.requires.1, node-inside _ _ _ c.args.row.now fits (ap not c.if-not-inside.false))
 
 pub returns : goal.returns
 returns c =
-    let fits = rw c.node-width.ensures at c.inside-fits.ensures in
-    node-read _ _ _ _ fits (ap not c.if-not-fits.false)
-    c.record_from-record.ensures
+    let fits = rw c.node-width.ensures at c.inside.ensures in
+    node-read _ _ _ _ fits (ap not c.if-not-inside.false)
+    c.record_from.ensures

@@ -1,5 +1,6 @@
 use native.Mathlib.Omega.{arith}
-use mathlib.Core.Path.{sym, ◌∙◌}
+use mathlib.Core.Path.{◌∙◌}
+use Rattle.std.proofs.lemmas.Result.{err_from_is_err_and}
 use Rattle.image.specs.Places.{channels_place}
 use Rattle.image.proofs.Bounds.{nodes-small}
 use Rattle.lent.specs.Check.{first_fault, first_untimely, contents_on}
@@ -7,9 +8,6 @@ use Rattle.lent.proofs.Walks.{all_start, all_end}
 use Rattle.image_reading.proofs.ReadLaws.{node-inside, channels-start, channels-next, channels-of}
 use Rattle.image_reading.proofs.SearchLaws.{row-sound, row-timely, rows-stop, rows-go}
 use Rattle.image_reading.proofs.contents.search_rows.Goals as goal
-
-pub node-step-requires : goal.node-step-requires
-node-step-requires c = c.requires.1
 
 pub overflow_mul-place : goal.overflow_mul-place
 overflow_mul-place c =
@@ -22,9 +20,6 @@ overflow_add-place c =
 pub loop-u-init : goal.loop-u-init
 unfolding channels_place
 loop-u-init c = (all_start _ _ _, rw c.node-step.ensures channels-start, c.requires.3, c.requires.4)
-
-pub overflow_cast-u : goal.overflow_cast-u
-overflow_cast-u c = omega arith
 
 pub overflow_mul-u : goal.overflow_mul-u
 overflow_mul-u c =
@@ -39,11 +34,8 @@ get_row-requires c =
     let l = c.loop-u in
     (c.requires.0, c.requires.1, l.invariant.2, rw c.node-step.ensures (node-inside c.requires.5 l.u c.loop-u-test.true))
 
-pub overflow_add-u : goal.overflow_add-u
-overflow_add-u c = omega arith
-
-pub search_row-r-requires : goal.search_row-r-requires
-search_row-r-requires c =
+pub search_row-requires : goal.search_row-requires
+search_row-requires c =
     let l = c.loop-u in (
       c.requires.0,
       c.requires.1,
@@ -53,51 +45,26 @@ search_row-r-requires c =
       channels-of l.invariant.1 c.requires.5 c.loop-u-test.true,
     )
 
-pub shape_of-row-then-r : goal.shape_of-row-then-r
-shape_of-row-then-r c =
-    c.get_row.auto.row ∙ (c.loop-u.invariant.2 ∙ sym c.requires.3)
-
-pub shape_of-cell-then-r : goal.shape_of-cell-then-r
-shape_of-cell-then-r c =
-    c.search_row-r.auto.cell
-    ∙ (c.loop-u.invariant.3 ∙ sym c.requires.4)
-
-pub returns-then-r : goal.returns-then-r
+pub returns-in_err-next : goal.returns-in_err-next
 unfolding contents_on first_fault first_untimely
-returns-then-r c =
+returns-in_err-next c =
     let l = c.loop-u in
     let more = c.loop-u-test.true in
-    let w = c.search_row-r in
     let row = rw c.node-step.ensures at c.get_row.ensures in
-    rows-stop _ _ _ _ _ _ _ l.invariant.0 more w.ensures (row-sound l.invariant.1 more row) (row-timely l.invariant.1 more row) c.if-r.true
-
-pub overflow_add-u-in-loop-u : goal.overflow_add-u-in-loop-u
-overflow_add-u-in-loop-u c = omega arith
-
-pub loop-u-smaller : goal.loop-u-smaller
-loop-u-smaller c = omega arith
+    let p = err_from_is_err_and c.from_residual.result c.from_residual.ensures.1 in
+    rw (p.1, p.2) (rows-stop _ _ _ _ _ _ _ l.invariant.0 more (row-sound l.invariant.1 more row) (row-timely l.invariant.1 more row) _ c.in_err-next.ensures)
 
 pub loop-u-preserved : goal.loop-u-preserved
 loop-u-preserved c =
     let l = c.loop-u in
     let more = c.loop-u-test.true in
-    let w = c.search_row-r in
-    let on = c.if-r.false in
     let row = rw c.node-step.ensures at c.get_row.ensures in (
-      rows-go _ _ _ _ _ _ _ l.invariant.0 more w.ensures (row-sound l.invariant.1 more row) (row-timely l.invariant.1 more row) on c.kept_or-late.ensures,
-      channels-next l.invariant.1 (w.ensures.ends on),
+      rows-go _ _ _ _ _ _ _ l.invariant.0 more (row-sound l.invariant.1 more row) (row-timely l.invariant.1 more row) _ _ _ _ c.in_ok-next.ensures c.and-late.ensures,
+      channels-next l.invariant.1 c.in_ok-next.ensures.2,
       c.get_row.auto.row ∙ l.invariant.2,
-      w.auto.cell ∙ l.invariant.3,
+      c.search_row.auto.cell ∙ l.invariant.3,
     )
-
-pub shape_of-row : goal.shape_of-row
-shape_of-row c = c.loop-u.invariant.2 ∙ sym c.requires.3
-
-pub shape_of-cell : goal.shape_of-cell
-shape_of-cell c = c.loop-u.invariant.3 ∙ sym c.requires.4
 
 pub returns : goal.returns
 unfolding contents_on first_fault first_untimely
-returns c =
-    let l = c.loop-u in
-    c.unless_late.ensures ∙ all_end _ _ _ _ _ l.invariant.0 (omega (arith, c.loop-u-test.false))
+returns c = all_end _ _ _ _ _ c.loop-u.invariant.0 (omega (arith, c.loop-u-test.false))

@@ -1,6 +1,6 @@
 -- `image_reading::contents::search_rows` meets its contract. The invariant: no fault in the first u rows, `late` is the first untimely pair of them, and
--- the place is behind their channels. The measure is how many rows are left.
-use Prim.Native.Nat.{◌+◌, ◌-◌}
+-- the place is behind their channels.
+use Prim.Native.Nat.{◌+◌}
 use mathlib.Core.Path.{◌≡◌}
 use lib.ListN.{length}
 use Rattle.bits.specs.Bits.{unpacked}
@@ -15,6 +15,3 @@ abbrev pub invariant-loop-u : goal.invariant-loop-u
 invariant-loop-u l =
     BothRows (pair_at l.n (tables_in l.h l.depth l.n (unpacked l.image))) (timely_at l.n (tables_in l.h l.depth l.n (unpacked l.image))) l.n l.late (l.u + 1)
     × ChannelsAt l.h l.depth l.n (unpacked l.image) l.u l.place × (length l.row ≡ width l.n) × (length l.cell ≡ cell_width)
-
-abbrev pub decreases-loop-u : goal.decreases-loop-u
-decreases-loop-u l = l.n - l.u

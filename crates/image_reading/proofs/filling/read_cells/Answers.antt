@@ -1,24 +1,15 @@
-use Prim.Native.Nat.{◌*◌}
 use native.Mathlib.Nat.{mul_assoc}
 use native.Mathlib.Omega.{arith}
-use mathlib.Core.Path.{refl, sym, ◌∙◌}
+use mathlib.Core.Path.{refl, ◌∙◌}
 use Rattle.image.specs.Places.{channels_place, tables_in}
 use Rattle.image.proofs.Bounds.{nodes-small}
 use Rattle.image.proofs.PartLaws.{records-shaped}
 use Rattle.tables.specs.Records.{tables_from}
 use Rattle.tables.specs.Tables.{cell_width}
 use Rattle.tables.proofs.RecordsLaws.{length-cells}
-use Rattle.tables.proofs.RowsLaws.{row_fits}
-use Rattle.tables.proofs.Sizes.{cell-rows-small}
 use Rattle.image_reading.proofs.FillLaws.{fill_start, fill_done, fill-wide, fill-next}
 use Rattle.image_reading.proofs.ReadLaws.{channels-start, channels-next, channels-of, cells-got}
 use Rattle.image_reading.proofs.filling.read_cells.Goals as goal
-
-pub overflow_mul-wide : goal.overflow_mul-wide
-overflow_mul-wide c = omega arith
-
-pub node-requires : goal.node-requires
-node-requires c = c.requires.1
 
 pub overflow_mul-place : goal.overflow_mul-place
 overflow_mul-place c =
@@ -33,46 +24,11 @@ unfolding channels_place
 loop-u-init c =
     (fill_start (c.requires.3 ∙ mul_assoc c.args.n c.args.n cell_width), rw c.node.ensures channels-start)
 
-pub overflow_cast-a : goal.overflow_cast-a
-overflow_cast-a c = omega arith
-
-pub overflow_mul-a : goal.overflow_mul-a
-overflow_mul-a c =
-    omega (arith, row_fits (c.args.n * cell_width) c.loop-u.u c.args.n c.loop-u-test.true, cell-rows-small c.args.n c.requires.1)
-
-pub overflow_add-e : goal.overflow_add-e
-overflow_add-e c =
-    omega (arith, row_fits (c.args.n * cell_width) c.loop-u.u c.args.n c.loop-u-test.true, cell-rows-small c.args.n c.requires.1)
-
-pub overflow_add-u : goal.overflow_add-u
-overflow_add-u c = omega arith
-
-pub offset_bounds-channels-a : goal.offset_bounds-channels-a
-offset_bounds-channels-a c =
-    omega (arith, row_fits (c.args.n * cell_width) c.loop-u.u c.args.n c.loop-u-test.true, cell-rows-small c.args.n c.requires.1)
-
-pub slice_bounds-read_cells_from-count : goal.slice_bounds-read_cells_from-count
-slice_bounds-read_cells_from-count c = omega arith
-
-pub slice_bounds-read_cells_from-start : goal.slice_bounds-read_cells_from-start
-slice_bounds-read_cells_from-start c =
-    omega (arith, row_fits (c.args.n * cell_width) c.loop-u.u c.args.n c.loop-u-test.true, c.loop-u.invariant.0.size)
-
-pub slice_bounds-read_cells_from-end : goal.slice_bounds-read_cells_from-end
-slice_bounds-read_cells_from-end c =
-    omega (arith, row_fits (c.args.n * cell_width) c.loop-u.u c.args.n c.loop-u-test.true, c.loop-u.invariant.0.size)
-
 pub read_cells_from-place-requires : goal.read_cells_from-place-requires
 read_cells_from-place-requires c =
     let l = c.loop-u in
     let more = c.loop-u-test.true in
     (c.requires.0, c.requires.1, fill-wide l.invariant.0 more refl refl, channels-of l.invariant.1 c.requires.4 more)
-
-pub overflow_add-u-in-loop-u : goal.overflow_add-u-in-loop-u
-overflow_add-u-in-loop-u c = omega arith
-
-pub loop-u-smaller : goal.loop-u-smaller
-loop-u-smaller c = omega arith
 
 pub loop-u-preserved : goal.loop-u-preserved
 loop-u-preserved c =
@@ -83,10 +39,6 @@ loop-u-preserved c =
           (length-cells c.args.n _ (records-shaped c.args.h c.args.depth c.args.n _) l.u more),
       channels-next l.invariant.1 got.1,
     )
-
-pub shape_of-channels : goal.shape_of-channels
-shape_of-channels c =
-    c.loop-u.invariant.0.size ∙ sym (c.requires.3 ∙ mul_assoc c.args.n c.args.n cell_width)
 
 pub returns : goal.returns
 unfolding tables_in tables_from

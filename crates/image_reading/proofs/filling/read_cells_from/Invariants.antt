@@ -1,6 +1,4 @@
 -- `image_reading::filling::read_cells_from` meets its contract. The invariant: the first v cells are filled, and the place is behind their channels.
--- The measure is how many are left.
-use Prim.Native.Nat.{◌-◌}
 use Rattle.bits.specs.Bits.{unpacked}
 use Rattle.tables.specs.Tables.{cell_width}
 use Rattle.image_reading.specs.inner.Cells.{cell_behind}
@@ -12,6 +10,3 @@ abbrev pub invariant-loop-v : goal.invariant-loop-v
 invariant-loop-v l =
     Filling cell_width l.n (cell_behind l.depth (unpacked l.image) l.u l.at) l.v l.cells
     × ChannelAt l.depth (unpacked l.image) l.u l.at l.v l.place
-
-abbrev pub decreases-loop-v : goal.decreases-loop-v
-decreases-loop-v l = l.n - l.v

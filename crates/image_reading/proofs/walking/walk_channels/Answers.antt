@@ -1,4 +1,4 @@
-use Rattle.std.proofs.Common.{refl}
+use Rattle.std.proofs.lemmas.Result.{err_from_is_err_and}
 use Rattle.image_reading.specs.Walk.{channels_walk}
 use Rattle.image_reading.proofs.Steps.{walk_start, walk-next, walk-stops, walk-done}
 use Rattle.image_reading.proofs.WalkLaws.{row_near}
@@ -8,20 +8,18 @@ use Rattle.image_reading.proofs.walking.walk_channels.Goals as goal
 pub loop-u-init : goal.loop-u-init
 loop-u-init c = walk_start _ _ _ _
 
-pub returns-in_default : goal.returns-in_default
+pub returns-in_err-place : goal.returns-in_err-place
 unfolding channels_walk
-returns-in_default c =
+returns-in_err-place c =
     let l = c.loop-u in
-    walk-stops _ _ _ _ l.u l.place l.invariant c.walk_channels_from-w.result c.walk_channels_from-w.ensures (omega arith) (rw c.in_default.is refl)
-
-pub loop-u-smaller : goal.loop-u-smaller
-loop-u-smaller c = omega arith
+    let p = err_from_is_err_and c.from_residual.result c.from_residual.ensures.1 in
+    rw (p.1, p.2) (walk-stops _ _ _ _ l.u l.place l.invariant (omega arith) _ c.in_err-place.ensures)
 
 pub loop-u-preserved : goal.loop-u-preserved
 loop-u-preserved c =
     let l = c.loop-u in
-    let r = c.in-At.next in
-    walk-next _ _ _ _ l.u l.place l.invariant c.walk_channels_from-w.result c.walk_channels_from-w.ensures (omega arith) r c.in-At.is
+    let r = c.in_ok-place.place in
+    walk-next _ _ _ _ l.u l.place l.invariant (omega arith) r c.in_ok-place.ensures
     (row_near c.args.depth c.args.n _ c.requires.0.high c.requires.1 _ l.place r)
 
 pub returns : goal.returns

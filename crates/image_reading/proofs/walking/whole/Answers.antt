@@ -4,9 +4,6 @@ use Rattle.image_reading.proofs.ByteLaws.{nodes-cut, nodes-stand}
 use native.Mathlib.Omega.{arith}
 use Rattle.image_reading.proofs.walking.whole.Goals as goal
 
-pub node-requires : goal.node-requires
-node-requires c = c.requires.1
-
 pub overflow_mul-start : goal.overflow_mul-start
 overflow_mul-start c =
     rw c.node.ensures (omega (arith, nodes-small c.args.depth c.args.n c.requires.0.high c.requires.1))

@@ -9,9 +9,6 @@ use Rattle.image_snapshot.proofs.looking.placed.Goals as goal
 pub returns-then-k-fields : goal.returns-then-k-fields
 returns-then-k-fields c = not-node _ _ _ _ _ _ c.if-k-fields.true
 
-pub start-at-requires : goal.start-at-requires
-start-at-requires c = (c.requires.0, c.requires.1, node-is _ c.args.k c.if-k-fields.false)
-
 pub returns-then-place-at : goal.returns-then-place-at
 returns-then-place-at c =
     let node = node-is _ c.args.k c.if-k-fields.false in

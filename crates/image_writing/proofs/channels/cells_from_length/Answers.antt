@@ -15,25 +15,19 @@ loop-v-init c = summed-start _ _
 
 pub channel-cell-requires : goal.channel-cell-requires
 channel-cell-requires c =
-    (c.requires.1, c.requires.2, record { low = c.loop-v.invariant.low; high = c.loop-v-test.true }, c.requires.3)
-
-pub waiting-requires : goal.waiting-requires
-waiting-requires c = c.channel-cell.ensures.1
-
-pub overflow_cast-sum : goal.overflow_cast-sum
-overflow_cast-sum c = omega arith
+    (c.requires.1, c.requires.2, record { low = c.loop-v.invariant.low; high = omega (arith, c.loop-v-test.true) }, c.requires.3)
 
 pub overflow_mul-sum : goal.overflow_mul-sum
 overflow_mul-sum c =
     let l = c.loop-v in
-    let node : Node c.args.n l.v = record { low = l.invariant.low; high = c.loop-v-test.true } in
+    let node : Node c.args.n l.v = record { low = l.invariant.low; high = omega (arith, c.loop-v-test.true) } in
     let is = c.waiting.ensures ∙ ap count c.channel-cell.ensures.0 in
     rw c.message-w.ensures (omega (arith, waiting-le _ _ _ _ _ _ c.requires.0 c.requires.2 node c.requires.3 c.requires.4 is))
 
 pub overflow_add-sum : goal.overflow_add-sum
 overflow_add-sum c =
     let l = c.loop-v in
-    let node : Node c.args.n l.v = record { low = l.invariant.low; high = c.loop-v-test.true } in
+    let node : Node c.args.n l.v = record { low = l.invariant.low; high = omega (arith, c.loop-v-test.true) } in
     let is = c.waiting.ensures ∙ ap count c.channel-cell.ensures.0 in
     rw c.message-w.ensures (omega (arith, waiting-le _ _ _ _ _ _ c.requires.0 c.requires.2 node c.requires.3 c.requires.4 is))
 
@@ -41,23 +35,17 @@ pub overflow_add-sum-then-u-v : goal.overflow_add-sum-then-u-v
 overflow_add-sum-then-u-v c =
     let l = c.loop-v in
     let taken = c.loop-v-test.true in
-    let node : Node c.args.n l.v = record { low = l.invariant.low; high = taken } in
+    let node : Node c.args.n l.v = record { low = l.invariant.low; high = omega (arith, taken) } in
     let is = c.waiting.ensures ∙ ap count c.channel-cell.ensures.0 in
     let one = waiting-le _ _ _ _ _ _ c.requires.0 c.requires.2 node c.requires.3 c.requires.4 is in
     let all = cells-from-le _ _ _ c.requires.0 c.requires.3 c.requires.4 _ (l.v - 1) c.requires.2 (omega (arith, taken)) in
     rw c.message-w.ensures (omega (arith, one, all, l.invariant.is, taken, c.requires.1))
 
-pub overflow_add-v : goal.overflow_add-v
-overflow_add-v c = omega (arith, c.requires.1, c.loop-v-test.true)
-
-pub loop-v-smaller : goal.loop-v-smaller
-loop-v-smaller c = omega (arith, c.loop-v-test.true)
-
 pub loop-v-preserved : goal.loop-v-preserved
 loop-v-preserved c =
     let l = c.loop-v in
     let taken = c.loop-v-test.true in
-    let node : Node c.args.n l.v = record { low = l.invariant.low; high = taken } in
+    let node : Node c.args.n l.v = record { low = l.invariant.low; high = omega (arith, taken) } in
     elim c.if-u-v.branch [
       | then-u-v w ↦
           let is = w.waiting.ensures ∙ ap count w.channel-cell.ensures.0 in

@@ -11,7 +11,7 @@ loop-u-init c = summed-start _ _
 
 pub cells_from_length-sum-requires : goal.cells_from_length-sum-requires
 cells_from_length-sum-requires c =
-    (c.requires.0, c.requires.1, record { low = c.loop-u.invariant.low; high = c.loop-u-test.true }, c.requires.2, c.requires.3)
+    (c.requires.0, c.requires.1, record { low = c.loop-u.invariant.low; high = omega (arith, c.loop-u-test.true) }, c.requires.2, c.requires.3)
 
 pub overflow_add-sum : goal.overflow_add-sum
 overflow_add-sum c =
@@ -20,12 +20,6 @@ overflow_add-sum c =
     let all = cells-le _ _ _ c.requires.0 c.requires.2 c.requires.3 (l.u - 1) (omega (arith, taken)) in
     let most = cells-most (l.u - 1) c.args.n (omega (arith, taken)) c.requires.1 in
     omega (arith, c.cells_from_length-sum.ensures.1, l.invariant.is, all, most)
-
-pub overflow_add-u : goal.overflow_add-u
-overflow_add-u c = omega (arith, c.requires.1, c.loop-u-test.true)
-
-pub loop-u-smaller : goal.loop-u-smaller
-loop-u-smaller c = omega (arith, c.loop-u-test.true)
 
 pub loop-u-preserved : goal.loop-u-preserved
 loop-u-preserved c =

@@ -1,12 +1,7 @@
 -- `image_writing::channels::cells_length` meets its contract. The invariant: the sum is the length of the channels from the nodes below u.
--- The measure is how many nodes are left.
-use Prim.Native.Nat.{◌+◌, ◌-◌}
 use Rattle.image_writing.specs.inner.Words.{cells_from_bits}
 use Rattle.image_writing.proofs.PieceLaws.{Summed}
 use Rattle.image_writing.proofs.channels.cells_length.Given as goal
 
 abbrev pub invariant-loop-u : goal.invariant-loop-u
 invariant-loop-u l = Summed (cells_from_bits l.depth l.n l.channels) l.n l.sum l.u
-
-abbrev pub decreases-loop-u : goal.decreases-loop-u
-decreases-loop-u l = l.n + 1 - l.u

@@ -12,14 +12,7 @@ unfolding cells_bits
 put_cells_from-place-requires c =
     let l = c.loop-u in
     let taken = c.loop-u-test.true in
-    (c.requires.0, c.requires.1, record { low = l.invariant.low; high = taken }, c.requires.2, c.requires.3, laid-room _ _ _ _ _ _ _ l.invariant taken c.requires.4)
-
-pub overflow_add-u : goal.overflow_add-u
-overflow_add-u c =
-    omega (arith, c.requires.1, c.loop-u-test.true)
-
-pub loop-u-smaller : goal.loop-u-smaller
-loop-u-smaller c = omega (arith, c.loop-u-test.true)
+    (c.requires.0, c.requires.1, record { low = l.invariant.low; high = omega (arith, taken) }, c.requires.2, c.requires.3, laid-room _ _ _ _ _ _ _ l.invariant taken c.requires.4)
 
 pub loop-u-preserved : goal.loop-u-preserved
 unfolding cells_bits
@@ -27,9 +20,6 @@ loop-u-preserved c =
     let put = c.put_cells_from-place.ensures in
     laid_next _ _ _ _ _ _ _ c.loop-u.invariant c.loop-u-test.true c.requires.4
     (below-cells-from _ _ _) put.0 put.1
-
-pub shape_of-buf : goal.shape_of-buf
-shape_of-buf c = c.loop-u.invariant.same
 
 pub returns : goal.returns
 unfolding cells_bits

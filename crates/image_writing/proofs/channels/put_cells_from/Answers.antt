@@ -17,14 +17,14 @@ loop-v-init c = laid-start _ _ _ _ (λ i. (c.type_inv.buf i).fits) (omega (arith
 
 pub channel-requires : goal.channel-requires
 channel-requires c =
-    (c.requires.1, c.requires.2, record { low = c.loop-v.invariant.low; high = c.loop-v-test.true }, c.requires.3)
+    (c.requires.1, c.requires.2, record { low = c.loop-v.invariant.low; high = omega (arith, c.loop-v-test.true) }, c.requires.3)
 
 pub put_cell-place-requires : goal.put_cell-place-requires
 unfolding cells_from_bits
 put_cell-place-requires c =
     let l = c.loop-v in
     let taken = c.loop-v-test.true in
-    let node : Node c.args.n l.v = record { low = l.invariant.low; high = taken } in
+    let node : Node c.args.n l.v = record { low = l.invariant.low; high = omega (arith, taken) } in
     let is = ap count c.channel.ensures.0 in
     let few = waiting_few _ _ _ _ _ _ c.requires.0 c.requires.2 node c.requires.3 c.requires.4 is in
     let e = length-cell _ _ _ _ _ _ c.requires.0 c.requires.2 node c.requires.3 c.requires.4 is c.if-u-v.true in
@@ -32,19 +32,13 @@ put_cell-place-requires c =
     rw e at (laid-room _ _ _ _ _ _ _ l.invariant taken c.requires.5) in
     (c.requires.0, c.channel.ensures.1, few, room)
 
-pub overflow_add-v : goal.overflow_add-v
-overflow_add-v c = omega (arith, c.requires.1, c.loop-v-test.true)
-
-pub loop-v-smaller : goal.loop-v-smaller
-loop-v-smaller c = omega (arith, c.loop-v-test.true)
-
 pub loop-v-preserved : goal.loop-v-preserved
 unfolding cells_from_bits
 loop-v-preserved c =
     let a = c.args in
     let l = c.loop-v in
     let taken = c.loop-v-test.true in
-    let node : Node a.n l.v = record { low = l.invariant.low; high = taken } in
+    let node : Node a.n l.v = record { low = l.invariant.low; high = omega (arith, taken) } in
     elim c.if-u-v.branch [
       | then-u-v w ↦
           let cell : cell_bits a.depth w.channel.result.now ≡ cell_bits_at a.depth a.n a.channels.now a.u l.v =
@@ -54,9 +48,6 @@ loop-v-preserved c =
           (w.buf-is ∙ w.put_cell-place.ensures.0 ∙ ap (written l.buf l.place) cell) (w.place-is ∙ w.put_cell-place.ensures.1 ∙ omega (arith, e))
       | else-u-v w ↦ laid-skip _ _ _ _ _ _ _ l.invariant taken (own-none _ _ _ _ _ w.if-u-v.false) w.buf-is w.place-is
     ]
-
-pub shape_of-buf : goal.shape_of-buf
-shape_of-buf c = c.loop-v.invariant.same
 
 pub returns : goal.returns
 unfolding cells_from_bits

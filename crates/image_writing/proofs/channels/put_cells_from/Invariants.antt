@@ -1,12 +1,7 @@
 -- `image_writing::channels::put_cells_from` meets its contract. The invariant: the channels to the nodes below v are written, and the place is behind them.
--- The measure is how many nodes are left.
-use Prim.Native.Nat.{◌+◌, ◌-◌}
 use Rattle.image_writing.specs.inner.Words.{cell_bits_at}
 use Rattle.image_writing.proofs.PieceLaws.{Laid}
 use Rattle.image_writing.proofs.channels.put_cells_from.Given as goal
 
 abbrev pub invariant-loop-v : goal.invariant-loop-v
 invariant-loop-v l = Laid (cell_bits_at l.depth l.n l.channels l.u) l.n l.initial.buf l.at l.buf l.place l.v
-
-abbrev pub decreases-loop-v : goal.decreases-loop-v
-decreases-loop-v l = l.n + 1 - l.v

@@ -1,4 +1,4 @@
-use Prim.Native.Nat.{ℕ, ◌*◌, ◌≤◌}
+use Prim.Native.Nat.{ℕ, ◌+◌, ◌*◌, ◌<◌}
 use native.Mathlib.Omega.{arith}
 use mathlib.Core.List.{List}
 use mathlib.Core.Path.{◌≡◌, ap, ◌∙◌}
@@ -13,10 +13,10 @@ use Rattle.image_writing.proofs.PieceLaws.{Laid, laid-start, laid-room, laid_nex
 use Rattle.image_writing.proofs.nodes.put_nodes.Goals as goal
 
 -- room for node u's record
-row_room : (d n : ℕ) (ns xs : List ℕ) (at : ℕ) (ys : List ℕ) (place u : ℕ) → Laid (node_bits_at d n ns) n xs at ys place u → u ≤ n
+row_room : (d n : ℕ) (ns xs : List ℕ) (at : ℕ) (ys : List ℕ) (place u : ℕ) → Laid (node_bits_at d n ns) n xs at ys place u → u < n + 1
     → length ns ≡ n * width n → Inside xs at (n * node_width d n) → Inside ys place (node_width d n)
 row_room d n ns xs at ys place u laid h size room =
-    rw (length-node d n ns size u (record { low = laid.low; high = h })) at (laid-room _ _ _ _ _ _ _ laid h (nodes-inside d n ns size room))
+    rw (length-node d n ns size u (record { low = laid.low; high = omega arith })) at (laid-room _ _ _ _ _ _ _ laid h (nodes-inside d n ns size room))
 
 -- the row put is node u's
 row_put : (d n : ℕ) (ns ys zs r : List ℕ) (place u : ℕ) → zs ≡ written ys place (row_bits d n r) → r ≡ node_of n u ns
@@ -24,15 +24,12 @@ row_put : (d n : ℕ) (ns ys zs r : List ℕ) (place u : ℕ) → zs ≡ written
 unfolding node_bits_at
 row_put d n ns ys zs r place u e is = e ∙ ap (λ (l : List ℕ). written ys place (row_bits d n l)) is
 
-pub node-w-requires : goal.node-w-requires
-node-w-requires c = c.requires.1
-
 pub loop-u-init : goal.loop-u-init
 loop-u-init c = laid-start _ _ _ _ (λ i. (c.type_inv.buf i).fits) (omega (arith, c.requires.3.inside))
 
 pub node-requires : goal.node-requires
 node-requires c =
-    (c.requires.1, record { low = c.loop-u.invariant.low; high = c.loop-u-test.true }, c.requires.2)
+    (c.requires.1, record { low = c.loop-u.invariant.low; high = omega (arith, c.loop-u-test.true) }, c.requires.2)
 
 pub put_row-requires : goal.put_row-requires
 put_row-requires c =
@@ -44,24 +41,14 @@ overflow_add-place c =
     let l = c.loop-u in
     omega (arith, (row_room _ _ _ _ _ _ _ _ l.invariant c.loop-u-test.true c.requires.2 c.requires.3).small)
 
-pub overflow_add-u : goal.overflow_add-u
-overflow_add-u c =
-    omega (arith, c.requires.1, c.loop-u-test.true)
-
-pub loop-u-smaller : goal.loop-u-smaller
-loop-u-smaller c = omega (arith, c.loop-u-test.true)
-
 pub loop-u-preserved : goal.loop-u-preserved
 loop-u-preserved c =
     let a = c.args in
     let l = c.loop-u in
     let taken = c.loop-u-test.true in
-    let e = length-node a.depth a.n a.nodes.now c.requires.2 l.u (record { low = l.invariant.low; high = taken }) in
+    let e = length-node a.depth a.n a.nodes.now c.requires.2 l.u (record { low = l.invariant.low; high = omega (arith, taken) }) in
     let is = row_put a.depth a.n a.nodes.now _ _ _ _ l.u c.put_row.ensures c.node.ensures.0 in
     laid_next _ _ _ _ _ _ _ l.invariant taken (nodes-inside _ _ _ c.requires.2 c.requires.3) (below-node _ _ _) is (omega (arith, e))
-
-pub shape_of-buf : goal.shape_of-buf
-shape_of-buf c = c.loop-u.invariant.same
 
 pub returns : goal.returns
 unfolding nodes_bits node_bits_at
