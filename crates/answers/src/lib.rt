@@ -13,8 +13,8 @@ pub fn number(answer: Answer) -> u32
     ensures { result ≡ (said answer).why.number }
 {
     match answer {
-        Answer::Done(_, _) => 0,
-        Answer::Refused(why) => refusal::number(why),
+        Ok(_) => 0,
+        Err(why) => why.number(),
     }
 }
 
@@ -40,8 +40,8 @@ pub fn letter(answer: Answer) -> u8
     ensures { result ≡ (said answer).value.rule }
 {
     match answer {
-        Answer::Done(rule, _) => rule_letter(rule),
-        Answer::Refused(_) => b'-',
+        Ok(done) => rule_letter(done.rule),
+        Err(_) => b'-',
     }
 }
 
@@ -50,7 +50,7 @@ pub fn sent(answer: Answer) -> u32
     ensures { result ≡ ones (said answer).value.sent_to }
 {
     match answer {
-        Answer::Done(_, set) => nodeset::count(set),
-        Answer::Refused(_) => 0,
+        Ok(done) => nodeset::count(done.sent_to),
+        Err(_) => 0,
     }
 }

@@ -7,32 +7,14 @@ ghost use Rattle.height.specs.Clock.{said_moved};
 ghost use Rattle.refusal.specs.Outcome.{outcome};
 ghost use Rattle.clock.specs.Advance.{advance_on};
 
-use height::{Moved, Time};
-
-// The clock to keep, and the answer.
-#[derive(Clone, Copy)]
-pub struct Advanced {
-    pub clock: Time,
-    pub moved: Moved,
-}
-
-// By value: the moved clock, or the old one beside the refusal at its end.
-pub fn advance_value(clock: Time, stamp: Time) -> Advanced
-    ensures { outcome (said_moved result.moved) result.clock ≡ advance_on clock stamp }
-{
-    let moved = clock.after(stamp);
-    let next = match moved {
-        Moved::To(t) => t,
-        Moved::AtEnd => clock,
-    };
-    Advanced { clock: next, moved }
-}
+use height::Time;
+use refusal::Refusal;
 
 // The clock is moved past itself and the stamp, where it is kept.
-pub fn advance(clock: &mut Time, stamp: Time) -> Moved
+pub fn advance(clock: &mut Time, stamp: Time) -> Result<Time, Refusal>
     ensures { outcome (said_moved result) clock.new ≡ advance_on clock.old stamp }
 {
-    let a = advance_value(*clock, stamp);
-    *clock = a.clock;
-    a.moved
+    let moved = clock.after(stamp)?;
+    *clock = moved;
+    Ok(moved)
 }

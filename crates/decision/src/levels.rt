@@ -1,55 +1,31 @@
 // Reference levels of the views in a set: all the same, the largest, and the smallest depth with it.
-ghost use Rattle.std.specs.Prelude.{◌≡◌, ◌≤◌, length};
+ghost use Rattle.std.specs.Prelude.{◌≡◌};
 ghost use Rattle.basics.specs.Functions.{every};
-ghost use Rattle.height.specs.inner.Stored.{Negated};
 ghost use Rattle.nodeset.specs.NodeSet.{member};
 ghost use Rattle.protocol.specs.Network.{Node};
-ghost use Rattle.protocol.specs.Rules.{of_level, larger, largest, deltas, smaller, smallest};
-ghost use Rattle.tables.specs.Tables.{width};
+ghost use Rattle.protocol.specs.Rules.{of_level, larger, largest, deltas, smallest};
 ghost use Rattle.decision.specs.inner.After.{seen};
 
-use height::{Height, ReferenceLevel, Time};
+use super::Views;
+use height::{ReferenceLevel, Time};
 
 // w is not in the set, or its view has this level.
-fn is_of_level(
-    n: u32,
-    set: u16,
-    row: &[u32],
-    v: u32,
-    view: Height,
-    level: ReferenceLevel,
-    w: u32,
-) -> bool
-    requires { (n ≤ 16) × Node n w × (length row.now ≡ width n) × Negated view.pair.nlts.0 }
-    ensures { result ≡ of_level (member «set») (seen row.now v view) level w }
+fn is_of_level(views: Views, set: u16, level: ReferenceLevel, w: u32) -> bool
+    requires { Node views.n w }
+    ensures { result ≡ of_level (member «set») (seen views.entry.row.now views.entry.v views.entry.view) level w }
 {
     if nodeset::contains(set, w) {
-        let other = super::sinks::height_of(n, row, v, view, w);
+        let other = views.of(w);
         return height::order::level_same(other.level, level);
     }
     true
 }
 
 // Every view in the set has this level.
-pub fn all_of_level(
-    n: u32,
-    set: u16,
-    row: &[u32],
-    v: u32,
-    view: Height,
-    level: ReferenceLevel,
-) -> bool
-    requires { (n ≤ 16) × (length row.now ≡ width n) × Negated view.pair.nlts.0 }
-    ensures { result ≡ every n (of_level (member «set») (seen row.now v view) level) }
+pub fn all_of_level(views: Views, set: u16, level: ReferenceLevel) -> bool
+    ensures { result ≡ every views.entry.n (of_level (member «set») (seen views.entry.row.now views.entry.v views.entry.view) level) }
 {
-    let mut w = n;
-    while 0 < w {
-        if !is_of_level(n, set, row, v, view, level, w) {
-            return false;
-        }
-        w -= 1;
-    }
-    true
+    (1..views.n + 1).all(|w| is_of_level(views, set, level, w))
 }
 
 fn larger_of(l: ReferenceLevel, m: ReferenceLevel) -> ReferenceLevel
@@ -62,63 +38,38 @@ fn larger_of(l: ReferenceLevel, m: ReferenceLevel) -> ReferenceLevel
 }
 
 // The largest level of the views in the set.
-pub fn largest_level(n: u32, set: u16, row: &[u32], v: u32, view: Height) -> ReferenceLevel
-    requires { (n ≤ 16) × (length row.now ≡ width n) × Negated view.pair.nlts.0 }
-    ensures { result ≡ largest n (member «set») (seen row.now v view) }
+pub fn largest_level(views: Views, set: u16) -> ReferenceLevel
+    ensures { result ≡ largest views.entry.n (member «set») (seen views.entry.row.now views.entry.v views.entry.view) }
 {
     let mut level = ReferenceLevel {
         tau: Time(0),
         oid: 0,
         r: 0,
     };
-    let mut w = 1;
-    while w <= n {
+    for w in 1..views.n + 1 {
         if nodeset::contains(set, w) {
-            let other = super::sinks::height_of(n, row, v, view, w);
+            let other = views.of(w);
             level = larger_of(level, other.level);
         }
-        w += 1;
     }
     level
 }
 
-fn smaller_of(d: i32, e: i32) -> i32
-    ensures { result ≡ smaller d e }
-{
-    if d < e {
-        return d;
-    }
-    e
-}
-
 // The smallest depth among the views in the set with this level; 0 where there is none.
-pub fn smallest_delta(
-    n: u32,
-    set: u16,
-    row: &[u32],
-    v: u32,
-    view: Height,
-    level: ReferenceLevel,
-) -> i32
-    requires { (n ≤ 16) × (length row.now ≡ width n) × Negated view.pair.nlts.0 }
-    ensures { result ≡ smallest (deltas n (member «set») (seen row.now v view) level) }
+pub fn smallest_delta(views: Views, set: u16, level: ReferenceLevel) -> i32
+    ensures { result ≡ smallest (deltas views.entry.n (member «set») (seen views.entry.row.now views.entry.v views.entry.view) level) }
 {
-    let mut found = false;
-    let mut least = 0;
-    let mut w = n;
-    while 0 < w {
+    let mut least: Option<i32> = None;
+    for w in (1..views.n + 1).rev() {
         if nodeset::contains(set, w) {
-            let other = super::sinks::height_of(n, row, v, view, w);
+            let other = views.of(w);
             if height::order::level_same(other.level, level) {
-                least = if found {
-                    smaller_of(least, other.delta)
-                } else {
-                    other.delta
+                least = match least {
+                    Some(delta) => Some(other.delta.min(delta)),
+                    None => Some(other.delta),
                 };
-                found = true;
             }
         }
-        w -= 1;
     }
-    least
+    least.unwrap_or(0)
 }

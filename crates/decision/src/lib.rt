@@ -1,5 +1,5 @@
 // What an event does at its node, decided by value: which rule, the height after it, and the set it sends to.
-// A node's heights are its row's, with the view of v passed beside it: nothing is written before everything is decided.
+// A node's heights are its row's, with the view of v beside it (`Views`): nothing is written before everything is decided.
 // These are leaves: only `election` calls them, with the bounds that `requires` states.
 #![tactic(auto)]
 
@@ -7,9 +7,11 @@ pub mod levels;
 pub mod outcome;
 pub mod rule;
 pub mod sinks;
+pub mod views;
 
 use height::{Height, Time};
 use protocol::Rule;
+pub use views::Views;
 
 // What an event has found at its node when its rule is chosen: the rule, the moved clock, both sets, the view of the other node.
 // The definition's record `Local` holds what the event then leaves: the height after the rule and the set sent to as well.
@@ -20,11 +22,4 @@ pub struct Decision {
     pub neighbors: u16,
     pub forming: u16,
     pub view: Height,
-}
-
-// A node's height after a rule, or the refusal of a depth out of range (8).
-#[derive(Clone, Copy)]
-pub enum After {
-    New(Height),
-    TooDeep,
 }

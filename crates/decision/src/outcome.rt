@@ -11,9 +11,10 @@ ghost use Rattle.tables.specs.Tables.{width};
 ghost use Rattle.decision.specs.inner.After.{seen, after_rule, sends_to};
 ghost use Rattle.decision.specs.inner.Bounds.{NegatedAfter, AdoptsNode};
 
-use super::{After, Decision};
+use super::{Decision, Views};
 use height::{Height, LeaderPair, ReferenceLevel, Time};
 use protocol::Rule;
+use refusal::Refusal;
 
 // A height of node u at depth `delta`.
 fn height_with(level: ReferenceLevel, delta: i32, pair: LeaderPair, u: u32) -> Height
@@ -42,12 +43,12 @@ fn one_less(delta: i32) -> i32
 }
 
 // Rule S: a level of u's own.
-fn started(n: u32, row: &[u32], u: u32, v: u32, d: Decision) -> Height
-    requires { (n ≤ 16) × Node n u × (length row.now ≡ width n) × Negated d.view.pair.nlts.0 }
-    ensures { (result ≡ height_after n (member d.neighbors) (seen row.now v d.view) u v d.clock.0 Rule.StartNewRefLevel)
+fn started(views: Views, u: u32, d: Decision) -> Height
+    requires { Node views.n u }
+    ensures { (result ≡ height_after views.entry.n (member d.neighbors) (seen views.entry.row.now views.entry.v views.entry.view) u views.entry.v d.clock.0 Rule.StartNewRefLevel)
         × Negated result.pair.nlts.0 }
 {
-    let own = super::sinks::height_of(n, row, v, d.view, u);
+    let own = views.of(u);
     let clock = d.clock;
     let level = ReferenceLevel {
         tau: clock,
@@ -59,13 +60,13 @@ fn started(n: u32, row: &[u32], u: u32, v: u32, d: Decision) -> Height
 }
 
 // Rule F: v's level, reflected.
-fn reflected(n: u32, row: &[u32], u: u32, v: u32, d: Decision) -> Height
-    requires { (n ≤ 16) × Node n u × (length row.now ≡ width n) × Negated d.view.pair.nlts.0 }
-    ensures { (result ≡ height_after n (member d.neighbors) (seen row.now v d.view) u v d.clock.0 Rule.ReflectRefLevel)
+fn reflected(views: Views, u: u32, d: Decision) -> Height
+    requires { Node views.n u }
+    ensures { (result ≡ height_after views.entry.n (member d.neighbors) (seen views.entry.row.now views.entry.v views.entry.view) u views.entry.v d.clock.0 Rule.ReflectRefLevel)
         × Negated result.pair.nlts.0 }
 {
-    let own = super::sinks::height_of(n, row, v, d.view, u);
-    let searched = d.view.level;
+    let own = views.of(u);
+    let searched = views.view.level;
     let level = ReferenceLevel {
         tau: Time(searched.tau.0),
         oid: searched.oid,
@@ -76,50 +77,55 @@ fn reflected(n: u32, row: &[u32], u: u32, v: u32, d: Decision) -> Height
 }
 
 // Rule P: the level taken, one below the smallest depth with it, u's pair.
-fn propagated(n: u32, row: &[u32], u: u32, v: u32, d: Decision, level: ReferenceLevel) -> After
-    requires { (n ≤ 16) × Node n u × (length row.now ≡ width n) × Negated d.view.pair.nlts.0 }
-    ensures { (result ≡ after_rule n (member d.neighbors) (seen row.now v d.view) u v d.clock.0 (Rule.PropagateLargestRefLevel level))
+fn propagated(views: Views, u: u32, d: Decision, level: ReferenceLevel) -> Result<Height, Refusal>
+    requires { Node views.n u }
+    ensures { (result ≡ after_rule views.entry.n (member d.neighbors) (seen views.entry.row.now views.entry.v views.entry.view) u views.entry.v d.clock.0 (Rule.PropagateLargestRefLevel level))
         × NegatedAfter result }
 {
-    let own = super::sinks::height_of(n, row, v, d.view, u);
-    let least = super::levels::smallest_delta(n, d.neighbors, row, v, d.view, level);
+    let own = views.of(u);
+    let least = super::levels::smallest_delta(views, d.neighbors, level);
     if height::LEAST_DELTA < least {
         let delta = one_less(least);
         let pair = own.pair;
-        return After::New(height_with(level, delta, pair, u));
+        return Ok(height_with(level, delta, pair, u));
     }
-    After::TooDeep
+    Err(Refusal::DeltaEnd)
 }
 
 // Rule A: w's level and pair, one above w's depth.
-fn adopted(n: u32, row: &[u32], u: u32, v: u32, d: Decision, w: u32) -> After
-    requires { (n ≤ 16) × Node n w × (length row.now ≡ width n) × Negated d.view.pair.nlts.0 }
-    ensures { (result ≡ after_rule n (member d.neighbors) (seen row.now v d.view) u v d.clock.0 (Rule.AdoptLpIfPriority w))
+fn adopted(views: Views, u: u32, d: Decision, w: u32) -> Result<Height, Refusal>
+    requires { Node views.n w }
+    ensures { (result ≡ after_rule views.entry.n (member d.neighbors) (seen views.entry.row.now views.entry.v views.entry.view) u views.entry.v d.clock.0 (Rule.AdoptLpIfPriority w))
         × NegatedAfter result }
 {
-    let other = super::sinks::height_of(n, row, v, d.view, w);
+    let other = views.of(w);
     if other.delta < height::GREATEST_DELTA {
         let delta = one_more(other.delta);
         let level = other.level;
         let pair = other.pair;
-        return After::New(height_with(level, delta, pair, u));
+        return Ok(height_with(level, delta, pair, u));
     }
-    After::TooDeep
+    Err(Refusal::DeltaEnd)
 }
 
-// u's height after the decision's rule.
-pub fn height_after(n: u32, row: &[u32], u: u32, v: u32, d: Decision) -> After
+// u's height after the decision's rule, or the refusal of a depth out of range (8).
+pub fn height_after(n: u32, row: &[u32], u: u32, v: u32, d: Decision) -> Result<Height, Refusal>
     requires { (n ≤ 16) × Node n u × (length row.now ≡ width n) × Negated d.view.pair.nlts.0 × AdoptsNode n d.rule }
     ensures { (result ≡ after_rule n (member d.neighbors) (seen row.now v d.view) u v d.clock.0 d.rule) × NegatedAfter result }
 {
-    let rule = d.rule;
-    match rule {
-        Rule::ElectSelf => After::New(height::self_elected(u, d.clock)),
-        Rule::StartNewRefLevel => After::New(started(n, row, u, v, d)),
-        Rule::ReflectRefLevel => After::New(reflected(n, row, u, v, d)),
-        Rule::PropagateLargestRefLevel(level) => propagated(n, row, u, v, d, level),
-        Rule::AdoptLpIfPriority(w) => adopted(n, row, u, v, d, w),
-        _ => After::New(super::sinks::height_of(n, row, v, d.view, u)),
+    let views = Views {
+        n,
+        row,
+        v,
+        view: d.view,
+    };
+    match d.rule {
+        Rule::ElectSelf => Ok(height::self_elected(u, d.clock)),
+        Rule::StartNewRefLevel => Ok(started(views, u, d)),
+        Rule::ReflectRefLevel => Ok(reflected(views, u, d)),
+        Rule::PropagateLargestRefLevel(level) => propagated(views, u, d, level),
+        Rule::AdoptLpIfPriority(w) => adopted(views, u, d, w),
+        _ => Ok(views.of(u)),
     }
 }
 
@@ -127,8 +133,7 @@ pub fn height_after(n: u32, row: &[u32], u: u32, v: u32, d: Decision) -> After
 pub fn sent_to(d: Decision, v: u32) -> u16
     ensures { result ≡ set_of 16 (sends_to v d.rule d.neighbors d.forming) }
 {
-    let rule = d.rule;
-    match rule {
+    match d.rule {
         Rule::ChannelUp => nodeset::single(v),
         Rule::Reply => nodeset::single(v),
         Rule::NoChange => 0,

@@ -1,26 +1,14 @@
-// The heights a node sees, and the sink test.
-ghost use Rattle.std.specs.Prelude.{◌&&◌, ◌≡◌, ◌≤◌, length};
+// The sink test.
+ghost use Rattle.std.specs.Prelude.{◌&&◌, ◌≡◌};
 ghost use Rattle.height.specs.Height.{pair_key, height_key};
 ghost use Rattle.height.specs.Order.{before, same};
-ghost use Rattle.height.specs.inner.Stored.{Negated};
 ghost use Rattle.nodeset.specs.NodeSet.{member};
 ghost use Rattle.protocol.specs.Network.{Node};
 ghost use Rattle.protocol.specs.Sink.{sink};
-ghost use Rattle.tables.specs.Tables.{width};
 ghost use Rattle.decision.specs.inner.After.{seen};
 
+use super::Views;
 use height::Height;
-
-// The height of w as u sees it, where `view` is its view of v.
-pub fn height_of(n: u32, row: &[u32], v: u32, view: Height, w: u32) -> Height
-    requires { (n ≤ 16) × Node n w × (length row.now ≡ width n) × Negated view.pair.nlts.0 }
-    ensures { (result ≡ seen row.now v view w) × Negated result.pair.nlts.0 }
-{
-    if w == v {
-        return view;
-    }
-    tables::rows::height_in(n, row, w)
-}
 
 // A view has the leader pair of u's height `own` and is greater.
 fn is_above(own: Height, other: Height) -> bool
@@ -30,20 +18,11 @@ fn is_above(own: Height, other: Height) -> bool
 }
 
 // Node u is a sink, with the neighbors `set`.
-pub fn is_sink(n: u32, set: u16, row: &[u32], v: u32, view: Height, u: u32) -> bool
-    requires { (n ≤ 16) × Node n u × (length row.now ≡ width n) × Negated view.pair.nlts.0 }
-    ensures { result ≡ sink n (member «set») (seen row.now v view) u }
+pub fn is_sink(views: Views, set: u16, u: u32) -> bool
+    requires { Node views.n u }
+    ensures { result ≡ sink views.entry.n (member «set») (seen views.entry.row.now views.entry.v views.entry.view) u }
 {
-    let own = height_of(n, row, v, view, u);
-    let mut w = n;
-    while 0 < w {
-        if nodeset::contains(set, w) {
-            let other = height_of(n, row, v, view, w);
-            if !is_above(own, other) {
-                return false;
-            }
-        }
-        w -= 1;
-    }
-    own.pair.lid != u
+    let own = views.of(u);
+    let above = (1..views.n + 1).all(|w| !nodeset::contains(set, w) || is_above(own, views.of(w)));
+    above & (own.pair.lid != u)
 }

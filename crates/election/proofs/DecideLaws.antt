@@ -8,6 +8,7 @@ use mathlib.Core.Path.{◌≡◌, refl, sym, ap, ◌∙◌}
 use lib.ListN.{length}
 use lib.Pow.{pow_mono}
 use borrow.Author.Tests.{lt-ltb}
+use Rattle.std.specs.Prelude.{Result, Ok, Err}
 use Rattle.basics.proofs.Tests.{Choice, yes!, no!, choice}
 use Rattle.decision.specs.inner.After.{seen}
 use Rattle.decision.specs.inner.Bounds.{AdoptsNode}
@@ -15,8 +16,6 @@ use Rattle.height.specs.Clock.{last_time, said_moved, clock_after}
 use Rattle.height.specs.Height.{zero_height}
 use Rattle.height.specs.inner.Stored.{Negated}
 use Rattle.height.specs.declared.Height.{Height}
-use Rattle.height.specs.declared.Moved.TheVariants.{To, AtEnd}
-use Rattle.height.specs.declared.Moved.{Moved}
 use Rattle.height.specs.declared.Time.{Time}
 use Rattle.nodeset.specs.NodeSet.{member}
 use Rattle.protocol.specs.Answer.{said_refused}
@@ -28,7 +27,8 @@ use Rattle.protocol.specs.declared.Rule.TheVariants.{ChannelUp, Ignored}
 use Rattle.protocol.specs.declared.Rule.{Rule}
 use Rattle.protocol.proofs.RuleCases.{Verdict, is_a, is_r, is_q, is_f, is_e, is_s, is_p, verdict, down_cases}
 use Rattle.refusal.specs.Outcome.{outcome}
-use Rattle.refusal.specs.Refusal.{why}
+use Rattle.refusal.specs.Refusal.{why, why_of}
+use Rattle.refusal.specs.declared.Refusal.{Refusal}
 use Rattle.tables.specs.Cell.{count, message_at}
 use Rattle.tables.specs.Load.{load, neighbors_at, forming_at}
 use Rattle.tables.specs.Row.{clock_in, neighbors_in, forming_in, height_in}
@@ -44,14 +44,14 @@ use Rattle.election.proofs.StepLaws.{step-unfit, step-late, moved_to, moved-end}
 
 -- ---- the clock, as `Time::after` answers it
 
-module _ (c s : ℕ) {k : ℕ} {m : Moved} (answers : said_moved m ≡ clock_after c s) (is : max c s ≡ k) where
-  clock-past : m ≡ AtEnd → last_time < suc k
-  clock-past e = let h = moved-end c s (ap said_moved (sym e) ∙ answers) in omega arith
+module _ (c s : ℕ) {k : ℕ} {m : Result Time Refusal} (answers : said_moved m ≡ clock_after c s) (is : max c s ≡ k) where
+  clock-past : {r : Refusal} → m ≡ Err r → (last_time < suc k) × (why_of r ≡ why 7 0 0)
+  clock-past {r} e = let h = moved-end c s r (ap said_moved (sym e) ∙ answers) in (omega (arith, h.0), h.1)
 
-  clock-is : {t : Time} → m ≡ To t → t.0 ≡ suc k
+  clock-is : {t : Time} → m ≡ Ok t → t.0 ≡ suc k
   clock-is {t} e = (moved_to c s t (ap said_moved (sym e) ∙ answers)).0 ∙ ap suc is
 
-  clock-fits : {t : Time} → m ≡ To t → t.0 ≤ last_time
+  clock-fits : {t : Time} → m ≡ Ok t → t.0 ≤ last_time
   clock-fits {t} e = let h = moved_to c s t (ap said_moved (sym e) ∙ answers) in omega (arith, h.0, h.1)
 
 -- ---- the rules that adopt name v
@@ -96,10 +96,10 @@ tested-row row v N F ns fs test = sym (test ∙ rw (ns, fs))
 module _ {n : ℕ} {t : Tables} {u v : ℕ} (b : Between n t u v) (kind : Kind) (fits : unfit (load n t) (event_of kind u v) ≡ false)
     (N F : ℕ → Bool) (row : ℕ → Height) (clock : ℕ) (rule : Rule)
     (leaves : local n (load n t) (event_of kind u v) ≡ carried n N F row u v clock rule) where
-  ends-late : last_time < clock → outcome (said_refused (why 7 0 0)) t ≡ step_at n (event_of kind u v) t
+  ends-late : (r : Refusal) → (last_time < clock) × (why_of r ≡ why 7 0 0) → outcome (said_refused (why_of r)) t ≡ step_at n (event_of kind u v) t
   unfolding late carried
-  ends-late h =
-      step-late n t b.fit (event_of kind u v) (between-named n t u v b kind) fits (carried n N F row u v clock rule) leaves (lt-ltb last_time clock h)
+  ends-late r h =
+      rw h.1 (step-late n t b.fit (event_of kind u v) (between-named n t u v b kind) fits (carried n N F row u v clock rule) leaves (lt-ltb last_time clock h.0))
 
 -- ---- u's row as the code reads it
 
@@ -139,11 +139,11 @@ module _ {n : ℕ} {t : Tables} {u v : ℕ} (b : Between n t u v) {row : List �
         up_fits : unfit (load n t) (up u v) ≡ false
         up_fits = up_is n t u v b ∙ tested ∙ h
 
-        module _ {c : ℕ} (clocks : c ≡ clock_in row) {m : Moved} (answers : said_moved m ≡ clock_after c 0) where
-          pub up-late : m ≡ AtEnd → outcome (said_refused (why 7 0 0)) t ≡ step_at n (up u v) t
-          up-late e = ends-late b Raised up_fits _ _ _ _ _ (local-up n t u v b) (clock-past _ 0 answers (ticks clocks) e)
+        module _ {c : ℕ} (clocks : c ≡ clock_in row) {m : Result Time Refusal} (answers : said_moved m ≡ clock_after c 0) where
+          pub up-late : {q : Refusal} → m ≡ Err q → outcome (said_refused (why_of q)) t ≡ step_at n (up u v) t
+          up-late e = ends-late b Raised up_fits _ _ _ _ _ (local-up n t u v b) _ (clock-past _ 0 answers (ticks clocks) e)
 
-          pub up-ready : {T : Time} → m ≡ To T → {G : ℕ} → G ≡ joined F v
+          pub up-ready : {T : Time} → m ≡ Ok T → {G : ℕ} → G ≡ joined F v
               → {view : Height} → (view ≡ height_in row v) × Negated view.pair.nlts.0
               → Ready Raised n t u v (record { rule = ChannelUp; clock = T; neighbors = N; forming = G; view = view })
           up-ready {T} e {G} g {view} w = record {
@@ -161,11 +161,11 @@ module _ {n : ℕ} {t : Tables} {u v : ℕ} (b : Between n t u v) {row : List �
         down_fits : unfit (load n t) (down u v) ≡ false
         down_fits = ap not (up_is n t u v b ∙ tested ∙ h)
 
-        module _ {c : ℕ} (clocks : c ≡ clock_in row) {m : Moved} (answers : said_moved m ≡ clock_after c 0) where
-          pub down-late : m ≡ AtEnd → outcome (said_refused (why 7 0 0)) t ≡ step_at n (down u v) t
-          down-late e = ends-late b Dropped down_fits _ _ _ _ _ (local-down n t u v b) (clock-past _ 0 answers (ticks clocks) e)
+        module _ {c : ℕ} (clocks : c ≡ clock_in row) {m : Result Time Refusal} (answers : said_moved m ≡ clock_after c 0) where
+          pub down-late : {q : Refusal} → m ≡ Err q → outcome (said_refused (why_of q)) t ≡ step_at n (down u v) t
+          down-late e = ends-late b Dropped down_fits _ _ _ _ _ (local-down n t u v b) _ (clock-past _ 0 answers (ticks clocks) e)
 
-          pub down-ready : {T : Time} → m ≡ To T → {M G : ℕ} → M ≡ without N v → G ≡ without F v
+          pub down-ready : {T : Time} → m ≡ Ok T → {M G : ℕ} → M ≡ without N v → G ≡ without F v
               → {view : Height} → (view ≡ zero_height) × Negated view.pair.nlts.0 → {rule : Rule} → rule ≡ down_rule n (member M) (seen row v view) u
               → Ready Dropped n t u v (record { rule = rule; clock = T; neighbors = M; forming = G; view = view })
           down-ready {T} e {M} {G} l g {view} w {rule} chosen = record {
@@ -197,20 +197,20 @@ module _ {n : ℕ} {t : Tables} {u v : ℕ} (b : Between n t u v) {row : List �
           → max c s ≡ max (clock_in (node_of n u t.nodes)) (message_at (channel_of n v u t.channels) 1).timestamp
       hears clocks stamps = rw (clocks, stamps, is, holds)
 
-      module _ {c s : ℕ} (clocks : c ≡ clock_in row) (stamps : s ≡ (message_at cell 1).timestamp) {m : Moved} (answers : said_moved m ≡ clock_after c s) where
+      module _ {c s : ℕ} (clocks : c ≡ clock_in row) (stamps : s ≡ (message_at cell 1).timestamp) {m : Result Time Refusal} (answers : said_moved m ≡ clock_after c s) where
         -- used or ignored
-        pub receipt-late : m ≡ AtEnd → outcome (said_refused (why 7 0 0)) t ≡ step_at n (receive v u) t
-        receipt-late e = go (choice (member (neighbors_in row) v || member (forming_in row) v))
+        pub receipt-late : {q : Refusal} → m ≡ Err q → outcome (said_refused (why_of q)) t ≡ step_at n (receive v u) t
+        receipt-late {q} e = go (choice (member (neighbors_in row) v || member (forming_in row) v))
           where
-            past : last_time < suc (max (clock_in (node_of n u t.nodes)) (message_at (channel_of n v u t.channels) 1).timestamp)
+            past : (last_time < suc (max (clock_in (node_of n u t.nodes)) (message_at (channel_of n v u t.channels) 1).timestamp)) × (why_of q ≡ why 7 0 0)
             past = clock-past c s answers (hears clocks stamps) e
 
-            go : Choice (member (neighbors_in row) v || member (forming_in row) v) → outcome (said_refused (why 7 0 0)) t ≡ step_at n (receive v u) t
-            go (yes! known) = ends-late b Received (receive_fit n t u v b waits) _ _ _ _ _ (local-heard n t u v b waits (at-tables known)) past
-            go (no! unknown) = ends-late b Received (receive_fit n t u v b waits) _ _ _ _ _ (local-ignored n t u v b waits (at-tables unknown)) past
+            go : Choice (member (neighbors_in row) v || member (forming_in row) v) → outcome (said_refused (why_of q)) t ≡ step_at n (receive v u) t
+            go (yes! known) = ends-late b Received (receive_fit n t u v b waits) _ _ _ _ _ (local-heard n t u v b waits (at-tables known)) _ past
+            go (no! unknown) = ends-late b Received (receive_fit n t u v b waits) _ _ _ _ _ (local-ignored n t u v b waits (at-tables unknown)) _ past
 
         pub ignored-ready : (member (neighbors_in row) v || member (forming_in row) v) ≡ false
-            → {T : Time} → m ≡ To T → {N F : ℕ} → N ≡ neighbors_in row → F ≡ forming_in row
+            → {T : Time} → m ≡ Ok T → {N F : ℕ} → N ≡ neighbors_in row → F ≡ forming_in row
             → {view : Height} → (view ≡ height_in row v) × Negated view.pair.nlts.0
             → Ready Received n t u v (record { rule = Ignored; clock = T; neighbors = N; forming = F; view = view })
         ignored-ready unknown {T} e {N} {F} ns fs {view} w = record {
@@ -226,7 +226,7 @@ module _ {n : ℕ} {t : Tables} {u v : ℕ} (b : Between n t u v) {row : List �
         }
 
         pub heard-ready : (member (neighbors_in row) v || member (forming_in row) v) ≡ true
-            → {T : Time} → m ≡ To T → {N F M G : ℕ} → N ≡ neighbors_in row → F ≡ forming_in row → M ≡ joined N v → G ≡ without F v
+            → {T : Time} → m ≡ Ok T → {N F M G : ℕ} → N ≡ neighbors_in row → F ≡ forming_in row → M ≡ joined N v → G ≡ without F v
             → {view : Height} → (view ≡ (message_at cell 1).height) × Negated view.pair.nlts.0
             → {rule : Rule} → rule ≡ receipt_rule n (member M) (seen row v view) u v
             → Ready Received n t u v (record { rule = rule; clock = T; neighbors = M; forming = G; view = view })

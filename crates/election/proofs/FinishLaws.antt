@@ -3,22 +3,20 @@
 use Prim.Native.Nat.{ℕ, zero, suc, ◌^◌, ◌<◌, ◌≤◌}
 use native.Mathlib.Omega.{arith}
 use mathlib.Core.Bool.{Bool, true, false, not}
-use mathlib.Core.List.{List, ◌∷◌, []}
+use mathlib.Core.List.{List}
 use mathlib.Core.Path.{◌≡◌, refl, sym, ap, subst, ◌∙◌}
-use denote.Enum.Declared.{tag_of}
-use types.Run.{OneOf, miss}
 use lib.Dec.{ltb}
 use lib.ListN.{length}
 use lib.Signed.{mag}
 use borrow.Author.Tests.{ltb-true, le-ltb}
+use Rattle.std.specs.Prelude.{Result, Ok, Err}
 use Rattle.decision.specs.inner.After.{seen, after_rule, sends_to}
-use Rattle.decision.specs.declared.After.TheVariants.{New, TooDeep}
-use Rattle.decision.specs.declared.After.{After}
 use Rattle.decision.specs.declared.Decision.{Decision}
 use Rattle.decision.specs.inner.Bounds.{NegatedAfter}
 use Rattle.refusal.specs.Outcome.{outcome}
-use Rattle.refusal.specs.Refusal.{why}
-use Rattle.decision.specs.contracts.After as declared
+use Rattle.refusal.specs.Refusal.{why, why_of}
+use Rattle.refusal.specs.declared.Refusal.{Refusal}
+use Rattle.refusal.specs.declared.Refusal.TheVariants.{DeltaEnd}
 use Rattle.basics.specs.Functions.{every}
 use Rattle.basics.proofs.FunctionsLaws.{update-at, every-at}
 use Rattle.basics.proofs.Tests.{clash, Choice, yes!, no!, choice}
@@ -68,35 +66,31 @@ home-is Received u v = refl
 -- ---- the height after the rule, as `decision` answers it
 
 module _ (n : ℕ) (N : ℕ → Bool) (row : ℕ → Height) (u v clock : ℕ) (rule : Rule) where
-  deep_is : after_rule n N row u v clock rule ≡ TooDeep → too_deep rule (height_after n N row u v clock rule).delta ≡ true
+  deep_is : {r : Refusal} → after_rule n N row u v clock rule ≡ Err r
+      → (too_deep rule (height_after n N row u v clock rule).delta ≡ true) × (why_of r ≡ why 8 0 0)
   unfolding after_rule
-  deep_is e = go (choice (too_deep rule (height_after n N row u v clock rule).delta))
+  deep_is {r} e = go (choice (too_deep rule (height_after n N row u v clock rule).delta))
     where
-      go : Choice (too_deep rule (height_after n N row u v clock rule).delta) → too_deep rule (height_after n N row u v clock rule).delta ≡ true
-      go (yes! q) = q
-      go (no! q) =
-          let z : New (height_after n N row u v clock rule) ≡ TooDeep = rw q at e in
-          let y : ◌≡◌ {A = ℕ} 0 1 = cc in absurd (omega arith)
+      go : Choice (too_deep rule (height_after n N row u v clock rule).delta)
+          → (too_deep rule (height_after n N row u v clock rule).delta ≡ true) × (why_of r ≡ why 8 0 0)
+      go (yes! q) =
+          let z : Err DeltaEnd ≡ Err r = rw q at e in
+          let y : DeltaEnd ≡ r = cc in
+          (q, ap why_of (sym y))
+      go (no! q) = let z : Ok (height_after n N row u v clock rule) ≡ Err r = rw q at e in absurd (cc)
 
-  new_is : (own : Height) → after_rule n N row u v clock rule ≡ New own
+  new_is : (own : Height) → after_rule n N row u v clock rule ≡ Ok own
       → (too_deep rule (height_after n N row u v clock rule).delta ≡ false) × (own ≡ height_after n N row u v clock rule)
   unfolding after_rule
   new_is own e = go (choice (too_deep rule (height_after n N row u v clock rule).delta))
     where
       go : Choice (too_deep rule (height_after n N row u v clock rule).delta)
           → (too_deep rule (height_after n N row u v clock rule).delta ≡ false) × (own ≡ height_after n N row u v clock rule)
-      go (yes! q) =
-          let z : TooDeep ≡ New own = rw q at e in
-          let y : ◌≡◌ {A = ℕ} 0 1 = cc in absurd (omega arith)
-      go (no! q) = let z : New (height_after n N row u v clock rule) ≡ New own = rw q at e in (q, cc)
+      go (yes! q) = let z : Err DeltaEnd ≡ Ok own = rw q at e in absurd (cc)
+      go (no! q) = let z : Ok (height_after n N row u v clock rule) ≡ Ok own = rw q at e in (q, cc)
 
--- the other side of `let After::New(own) = .. else`
-pub other-side : (r : After) → OneOf (1 ∷ []) (tag_of declared.the_type r) → r ≡ TooDeep
-other-side (New h) k = absurd (miss (1 ∷ []) 0 tt k)
-other-side TooDeep k = refl
-
--- the side of `New`
-pub new-negated : {r : After} {own : Height} → r ≡ New own → NegatedAfter r → Negated own.pair.nlts.0
+-- the side of `Ok`
+pub new-negated : {r : Result Height Refusal} {own : Height} → r ≡ Ok own → NegatedAfter r → Negated own.pair.nlts.0
 new-negated e g = subst NegatedAfter e g
 
 pub wordy : (h : Height) → mag h.delta < 2147483648 → Negated h.pair.nlts.0 → Wordy h
@@ -192,17 +186,22 @@ module _ {kind : Kind} {n : ℕ} {t : Tables} {u v : ℕ} {d : Decision} (ready 
 
   -- ---- by what `height_after` says of the row that was read
 
-  module _ {ws : List ℕ} (read : ws ≡ node_of n u t.nodes) {r : After}
+  module _ {ws : List ℕ} (read : ws ≡ node_of n u t.nodes) {r : Result Height Refusal}
       (said : r ≡ after_rule n (member d.neighbors) (seen ws v d.view) u v d.clock.0 d.rule) where
     after_is : after_rule n (member d.neighbors) row u v d.clock.0 d.rule ≡ r
     after_is = sym (said ∙ ap (λ (xs : List ℕ). after_rule n (member d.neighbors) (seen xs v d.view) u v d.clock.0 d.rule) read)
 
-    pub ends-deep : r ≡ TooDeep → outcome (said_refused (why 8 0 0)) t ≡ step_at n (event_of kind u v) t
-    ends-deep e =
-        step-deep n t b.fit (event_of kind u v) (between-named n t u v b kind) ready.fits (local_of n t u v d) ready.leaves intime
-        (unfold carried in rw (home-is kind u v, update-at) (deep_is n (member d.neighbors) row u v d.clock.0 d.rule (after_is ∙ e)))
+    module _ {q : Refusal} (refused : r ≡ Err q) where
+      deep : too_deep (local_of n t u v d).rule ((local_of n t u v d).row (home (event_of kind u v))).delta ≡ true
+      unfolding carried
+      deep = rw (home-is kind u v, update-at) (deep_is n (member d.neighbors) row u v d.clock.0 d.rule (after_is ∙ refused)).0
 
-    module _ {own : Height} (new : r ≡ New own) where
+      pub ends-deep : outcome (said_refused (why_of q)) t ≡ step_at n (event_of kind u v) t
+      ends-deep =
+          rw (deep_is n (member d.neighbors) row u v d.clock.0 d.rule (after_is ∙ refused)).1
+          (step-deep n t b.fit (event_of kind u v) (between-named n t u v b kind) ready.fits (local_of n t u v d) ready.leaves intime deep)
+
+    module _ {own : Height} (new : r ≡ Ok own) where
       own_is : (too_deep d.rule (height_after n (member d.neighbors) row u v d.clock.0 d.rule).delta ≡ false)
           × (own ≡ height_after n (member d.neighbors) row u v d.clock.0 d.rule)
       own_is = new_is n (member d.neighbors) row u v d.clock.0 d.rule own (after_is ∙ new)

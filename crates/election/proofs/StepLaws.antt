@@ -4,19 +4,21 @@ use Prim.Native.Nat.{ℕ, suc, max, ◌≤◌}
 use native.Mathlib.Omega.{arith}
 use mathlib.Core.Bool.{true, false}
 use mathlib.Core.Path.{◌≡◌, sym, ap, ◌∙◌}
-use lib.Dec.{ltb}
+use lib.Dec.{eqb, ltb}
 use borrow.Author.Tests.{ne_eqb, ltb-true, ltb-false}
-use Rattle.basics.proofs.Tests.{Choice, yes!, no!, choice}
+use Rattle.std.specs.Prelude.{Ok, Err}
+use Rattle.basics.proofs.Tests.{Choice, yes!, no!, choice, clash}
 use Rattle.height.specs.Clock.{last_time, said_moved, clock_after}
-use Rattle.height.specs.declared.Moved.TheVariants.{To, AtEnd}
 use Rattle.height.specs.declared.Time.{Time}
-use Rattle.height.proofs.Moves.{clock-moved, clock-moves}
+use Rattle.height.proofs.Moves.{clock-moved, clock-moves, clock-ends}
 use Rattle.nodeset.specs.NodeSet.{set_of}
 use Rattle.protocol.specs.Answer.{said_rule, said_refused}
 use Rattle.protocol.specs.Refusal.{misnamed, unfit, unfit_number, late, too_deep, crowded, returned, accepts, answer, next}
 use Rattle.protocol.specs.Step.{Event, home, Local, local, cleared, commit, step}
 use Rattle.refusal.specs.Outcome.{outcome, Answered}
-use Rattle.refusal.specs.Refusal.{why}
+use Rattle.refusal.specs.Refusal.{why, why_of}
+use Rattle.refusal.specs.declared.Refusal.{Refusal}
+use Rattle.refusal.proofs.RefusalLaws.{never-0}
 use Rattle.tables.specs.Load.{load, tables_of}
 use Rattle.tables.specs.Tables.{Tables}
 use Rattle.tables.specs.inner.Fit.{TablesFit}
@@ -57,16 +59,17 @@ module _ (n : ℕ) (t : Tables) (fit : TablesFit n t) (e : Event) where
 
 -- ---- the moved clock, as `Time::after` answers it
 
-pub moved_to : (c s : ℕ) (t : Time) → said_moved (To t) ≡ clock_after c s → (t.0 ≡ suc (max c s)) × (suc (max c s) ≤ last_time)
+pub moved_to : (c s : ℕ) (t : Time) → said_moved (Ok t) ≡ clock_after c s → (t.0 ≡ suc (max c s)) × (suc (max c s) ≤ last_time)
 moved_to c s t e =
     let q = clock-moved c s (sym (ap (λ (m : Answered ℕ). m.why.number) e)) in
     (ap (λ (m : Answered ℕ). m.value) e ∙ q.1, q.0)
 
-pub moved-end : (c s : ℕ) → said_moved AtEnd ≡ clock_after c s → last_time ≤ max c s
-moved-end c s e = go (choice (ltb (max c s) last_time))
+pub moved-end : (c s : ℕ) (r : Refusal) → said_moved (Err r) ≡ clock_after c s → (last_time ≤ max c s) × (why_of r ≡ why 7 0 0)
+moved-end c s r e = go (choice (ltb (max c s) last_time))
   where
-    go : Choice (ltb (max c s) last_time) → last_time ≤ max c s
-    go (no! h) = ltb-false (max c s) last_time h
+    go : Choice (ltb (max c s) last_time) → (last_time ≤ max c s) × (why_of r ≡ why 7 0 0)
+    go (no! h) =
+        let over : last_time ≤ max c s = ltb-false (max c s) last_time h in
+        (over, ap (λ (m : Answered ℕ). m.why) (e ∙ clock-ends c s over))
     go (yes! h) =
-        let z : ◌≡◌ {A = ℕ} 7 0 = ap (λ (m : Answered ℕ). m.why.number) (e ∙ clock-moves c s (ltb-true (max c s) last_time h)) in
-        absurd (omega arith)
+        clash (ap (λ (m : Answered ℕ). eqb m.why.number 0) (e ∙ clock-moves c s (ltb-true (max c s) last_time h))) (never-0 r)

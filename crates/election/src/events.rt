@@ -12,9 +12,9 @@ ghost use Rattle.tables.specs.inner.Fit.{RowFits, TablesFit};
 ghost use Rattle.election.specs.StepOn.{step_at};
 ghost use Rattle.election.specs.inner.Deciding.{event_of, Between, Decides, DecidesBy};
 
-use super::{Decided, Kind};
-use decision::Decision;
-use height::{Height, LeaderPair, Moved, NegatedTime, ReferenceLevel, Time};
+use super::Kind;
+use decision::{Decision, Views};
+use height::{Height, LeaderPair, NegatedTime, ReferenceLevel, Time};
 use protocol::{Answer, Rule};
 use refusal::Refusal;
 
@@ -56,22 +56,20 @@ fn is_up(neighbors: u16, forming: u16, v: u32) -> bool
 // ---- what is decided, from the node's row and, of a receipt, the channel's cell
 
 // Up: v joins F. Rule U.
-fn decide_up(n: u32, v: u32, row: &[u32]) -> Decided
+fn decide_up(n: u32, v: u32, row: &[u32]) -> Result<Decision, Refusal>
     requires { (n ≤ 16) × Node n v × RowFits n row.now }
     ensures { (u : ℕ) (cell : List ℕ) → DecidesBy Kind.Raised n u v row.now cell result }
 {
     let neighbors = tables::rows::neighbors(row);
     let linking = tables::rows::forming(row);
     if is_up(neighbors, linking, v) {
-        return Decided::Refused(Refusal::AlreadyUp);
+        return Err(Refusal::AlreadyUp);
     }
-    let Moved::To(clock) = tables::rows::clock(row).after(Time(0)) else {
-        return Decided::Refused(Refusal::ClockEnd);
-    };
+    let clock = tables::rows::clock(row).after(Time(0))?;
     let forming = nodeset::insert(linking, v);
     let view = tables::rows::height_in(n, row, v);
     let rule = Rule::ChannelUp;
-    Decided::As(Decision {
+    Ok(Decision {
         rule,
         clock,
         neighbors,
@@ -81,23 +79,22 @@ fn decide_up(n: u32, v: u32, row: &[u32]) -> Decided
 }
 
 // Down: v leaves both sets, its view is forgotten.
-fn decide_down(n: u32, u: u32, v: u32, row: &[u32]) -> Decided
+fn decide_down(n: u32, u: u32, v: u32, row: &[u32]) -> Result<Decision, Refusal>
     requires { (n ≤ 16) × Node n u × Node n v × RowFits n row.now }
     ensures { (cell : List ℕ) → DecidesBy Kind.Dropped n u v row.now cell result }
 {
     let linked = tables::rows::neighbors(row);
     let linking = tables::rows::forming(row);
     if !is_up(linked, linking, v) {
-        return Decided::Refused(Refusal::AlreadyDown);
+        return Err(Refusal::AlreadyDown);
     }
-    let Moved::To(clock) = tables::rows::clock(row).after(Time(0)) else {
-        return Decided::Refused(Refusal::ClockEnd);
-    };
+    let clock = tables::rows::clock(row).after(Time(0))?;
     let neighbors = nodeset::remove(linked, v);
     let forming = nodeset::remove(linking, v);
     let view = no_view();
-    let rule = decision::rule::of_down(n, neighbors, row, v, view, u);
-    Decided::As(Decision {
+    let views = Views { n, row, v, view };
+    let rule = decision::rule::of_down(views, neighbors, u);
+    Ok(Decision {
         rule,
         clock,
         neighbors,
@@ -108,23 +105,21 @@ fn decide_down(n: u32, u: u32, v: u32, row: &[u32]) -> Decided
 
 // A receipt: the clock moves past the stamp. From a node in neither set nothing else is taken, rule I; else the sender moves to N, and the row takes its height
 // as the view of it.
-fn decide_receipt(n: u32, u: u32, v: u32, row: &[u32], cell: &[u32]) -> Decided
+fn decide_receipt(n: u32, u: u32, v: u32, row: &[u32], cell: &[u32]) -> Result<Decision, Refusal>
     requires { (n ≤ 16) × Node n u × Node n v × RowFits n row.now × (length cell.now ≡ cell_width) }
     ensures { DecidesBy Kind.Received n u v row.now cell.now result }
 {
     if tables::cells::waiting(cell) == 0 {
-        return Decided::Refused(Refusal::NoMessage);
+        return Err(Refusal::NoMessage);
     }
     let linked = tables::rows::neighbors(row);
     let linking = tables::rows::forming(row);
     let stamp = tables::cells::nth_timestamp(cell, 0);
-    let Moved::To(clock) = tables::rows::clock(row).after(stamp) else {
-        return Decided::Refused(Refusal::ClockEnd);
-    };
+    let clock = tables::rows::clock(row).after(stamp)?;
     if !is_up(linked, linking, v) {
         let view = tables::rows::height_in(n, row, v);
         let rule = Rule::Ignored;
-        return Decided::As(Decision {
+        return Ok(Decision {
             rule,
             clock,
             neighbors: linked,
@@ -135,8 +130,9 @@ fn decide_receipt(n: u32, u: u32, v: u32, row: &[u32], cell: &[u32]) -> Decided
     let neighbors = nodeset::insert(linked, v);
     let forming = nodeset::remove(linking, v);
     let view = tables::cells::nth_height(cell, 0);
-    let rule = decision::rule::of_receipt(n, neighbors, row, u, v, view);
-    Decided::As(Decision {
+    let views = Views { n, row, v, view };
+    let rule = decision::rule::of_receipt(views, neighbors, u);
+    Ok(Decision {
         rule,
         clock,
         neighbors,
@@ -145,7 +141,14 @@ fn decide_receipt(n: u32, u: u32, v: u32, row: &[u32], cell: &[u32]) -> Decided
     })
 }
 
-fn decide(kind: Kind, n: u32, u: u32, v: u32, nodes: &[u32], channels: &[u32]) -> Decided
+fn decide(
+    kind: Kind,
+    n: u32,
+    u: u32,
+    v: u32,
+    nodes: &[u32],
+    channels: &[u32],
+) -> Result<Decision, Refusal>
     requires { Between n (tables nodes.now channels.now) u v }
     ensures { Decides kind n (tables nodes.now channels.now) u v result }
 {
@@ -167,10 +170,8 @@ pub fn event(kind: Kind, n: u32, u: u32, v: u32, nodes: &mut [u32], channels: &m
     ensures { outcome (said result) (tables nodes.new channels.new) ≡ step_at n (event_of kind u v) (tables nodes.old channels.old) }
 {
     if !are_named(n, u, v) {
-        return Answer::Refused(Refusal::NodeNumber);
+        return Err(Refusal::NodeNumber);
     }
-    match decide(kind, n, u, v, nodes, channels) {
-        Decided::As(d) => super::finish::finish(kind, n, u, v, d, nodes, channels),
-        Decided::Refused(why) => Answer::Refused(why),
-    }
+    let d = decide(kind, n, u, v, nodes, channels)?;
+    super::finish::finish(kind, n, u, v, d, nodes, channels)
 }

@@ -10,9 +10,9 @@ ghost use Rattle.election.specs.StepOn.{step_at};
 ghost use Rattle.election.specs.inner.Deciding.{event_of, Ready, row_after};
 
 use super::Kind;
-use decision::{After, Decision};
+use decision::Decision;
 use height::Height;
-use protocol::Answer;
+use protocol::{Answer, Done};
 use refusal::Refusal;
 
 // u's row after the event: its view of v, its own height, the clock and both sets.
@@ -49,16 +49,16 @@ pub fn finish(
     ensures { outcome (said result) (tables nodes.new channels.new) ≡ step_at n (event_of kind u v) (tables nodes.old channels.old) }
 {
     let row = tables::rows::node(n, u, nodes);
-    let After::New(own) = decision::outcome::height_after(n, row, u, v, d) else {
-        return Answer::Refused(Refusal::DeltaEnd);
-    };
+    let own = decision::outcome::height_after(n, row, u, v, d)?;
     let to = decision::outcome::sent_to(d, v);
     if !super::sending::has_room(n, u, to, channels) {
-        return Answer::Refused(Refusal::ChannelFull);
+        return Err(Refusal::ChannelFull);
     }
     super::sending::clear_channel(kind, n, u, v, channels);
     write_node(n, u, v, d, own, nodes);
     super::sending::send_all(n, u, to, own, d.clock, channels);
-    let rule = d.rule;
-    Answer::Done(rule, to)
+    Ok(Done {
+        rule: d.rule,
+        sent_to: to,
+    })
 }

@@ -9,10 +9,7 @@ ghost use Rattle.refusal.specs.Outcome.{outcome};
 ghost use Rattle.election.specs.StepOn.{step_on};
 ghost use Rattle.tables.specs.Tables.{tables};
 
-use decision::Decision;
-use lent::Checked;
 use protocol::Answer;
-use refusal::Refusal;
 
 mod events;
 mod finish;
@@ -26,39 +23,26 @@ pub enum Kind {
     Received,
 }
 
-// What is decided of an event before anything is written.
-#[derive(Clone, Copy)]
-pub enum Decided {
-    As(Decision),
-    Refused(Refusal),
-}
-
 // Channel u to v goes up, at u.
 pub fn up(n: u32, u: u32, v: u32, nodes: &mut [u32], channels: &mut [u32]) -> Answer
     ensures { outcome (said result) (tables nodes.new channels.new) ≡ step_on n (up u v) (tables nodes.old channels.old) }
 {
-    match lent::check(n, nodes, channels) {
-        Checked::Sound => events::event(Kind::Raised, n, u, v, nodes, channels),
-        Checked::Refused(why) => Answer::Refused(why),
-    }
+    lent::check(n, nodes, channels)?;
+    events::event(Kind::Raised, n, u, v, nodes, channels)
 }
 
 // Channel u to v goes down, at u.
 pub fn down(n: u32, u: u32, v: u32, nodes: &mut [u32], channels: &mut [u32]) -> Answer
     ensures { outcome (said result) (tables nodes.new channels.new) ≡ step_on n (down u v) (tables nodes.old channels.old) }
 {
-    match lent::check(n, nodes, channels) {
-        Checked::Sound => events::event(Kind::Dropped, n, u, v, nodes, channels),
-        Checked::Refused(why) => Answer::Refused(why),
-    }
+    lent::check(n, nodes, channels)?;
+    events::event(Kind::Dropped, n, u, v, nodes, channels)
 }
 
 // The first message of channel v to u is received, at u.
 pub fn receive(n: u32, v: u32, u: u32, nodes: &mut [u32], channels: &mut [u32]) -> Answer
     ensures { outcome (said result) (tables nodes.new channels.new) ≡ step_on n (receive v u) (tables nodes.old channels.old) }
 {
-    match lent::check(n, nodes, channels) {
-        Checked::Sound => events::event(Kind::Received, n, u, v, nodes, channels),
-        Checked::Refused(why) => Answer::Refused(why),
-    }
+    lent::check(n, nodes, channels)?;
+    events::event(Kind::Received, n, u, v, nodes, channels)
 }

@@ -24,14 +24,7 @@ pub fn has_room(n: u32, u: u32, to: u16, channels: &[u32]) -> bool
     requires { (n ≤ 16) × Node n u × (length channels.now ≡ n * n * cell_width) }
     ensures { result ≡ every n (room_for n u to channels.now) }
 {
-    let mut w = n;
-    while 0 < w {
-        if !has_room_for(n, u, to, w, channels) {
-            return false;
-        }
-        w -= 1;
-    }
-    true
+    (1..n + 1).all(|w| has_room_for(n, u, to, w, channels))
 }
 
 // What the event of this kind at u with v does to a channel before it sends.

@@ -4,9 +4,9 @@ use lib.Count.{ones}
 use Rattle.answers.proofs.SaidFields.{done-set, refused-set}
 use Rattle.answers.proofs.sent.Goals as goal
 
-pub returns-in-Done : goal.returns-in-Done
-returns-in-Done c = c.count.ensures ∙ ap ones (sym (done-set _ _ _ c.in-Done.is))
+pub returns-in-Ok : goal.returns-in-Ok
+returns-in-Ok c = c.count.ensures ∙ ap ones (sym (done-set _ _ c.in-Ok.is))
 
-pub returns-in-Refused : goal.returns-in-Refused
+pub returns-in-Err : goal.returns-in-Err
 unfolding ones
-returns-in-Refused c = ap ones (sym (refused-set _ _ c.in-Refused.is))
+returns-in-Err c = ap ones (sym (refused-set _ _ c.in-Err.is))

@@ -1,17 +1,17 @@
 -- Bounds that the leaves ask of each other: of the new height, and of the rule.
-use Rattle.std.specs.Prelude.{ℕ}
+use Rattle.std.specs.Prelude.{ℕ, Result, Ok, Err}
 use Rattle.height.specs.inner.Stored.{Negated}
 use Rattle.protocol.specs.Network.{Node}
 use Rattle.protocol.specs.declared.Rule.TheVariants.{ChannelUp, ElectSelf, StartNewRefLevel, NoChange, Ignored}
 use Rattle.protocol.specs.declared.Rule.TheVariants.{ReflectRefLevel, PropagateLargestRefLevel, AdoptLpIfPriority, Reply}
 use Rattle.protocol.specs.declared.Rule.{Rule}
-use Rattle.decision.specs.declared.After.TheVariants.{New, TooDeep}
-use Rattle.decision.specs.declared.After.{After}
+use Rattle.height.specs.declared.Height.{Height}
+use Rattle.refusal.specs.declared.Refusal.{Refusal}
 
 -- the new height's election time is a negated time
-abbrev pub NegatedAfter : After → Type 0
-NegatedAfter (New h) = Negated h.pair.nlts.0
-NegatedAfter TooDeep = Unit {0}
+abbrev pub NegatedAfter : Result Height Refusal → Type 0
+NegatedAfter (Ok h) = Negated h.pair.nlts.0
+NegatedAfter (Err r) = Unit {0}
 
 -- a rule that adopts names a node
 abbrev pub AdoptsNode : ℕ → Rule → Type 0

@@ -1,5 +1,5 @@
 -- What is decided of an event by reading alone, and the row that is then written. The meaning is `local` and `returned` of protocol.
-use Rattle.std.specs.Prelude.{ℕ, ◌<◌, ◌^◌, ◌≤◌, false, List, ◌≡◌}
+use Rattle.std.specs.Prelude.{ℕ, ◌<◌, ◌^◌, ◌≤◌, false, List, ◌≡◌, Result, Ok, Err}
 use Rattle.decision.specs.inner.After.{seen}
 use Rattle.decision.specs.declared.Decision.{Decision}
 use Rattle.decision.specs.inner.Bounds.{AdoptsNode}
@@ -18,8 +18,7 @@ use Rattle.tables.specs.inner.Written.{put_height, with_head}
 use Rattle.tables.specs.Tables.{Tables, node_of, channel_of}
 use Rattle.tables.specs.inner.Fit.{TablesFit}
 use Rattle.election.specs.StepOn.{step_at}
-use Rattle.election.specs.declared.Decided.TheVariants.{As, Refused}
-use Rattle.election.specs.declared.Decided.{Decided}
+use Rattle.refusal.specs.declared.Refusal.{Refusal}
 use Rattle.election.specs.declared.Kind.TheVariants.{Raised, Dropped, Received}
 use Rattle.election.specs.declared.Kind.{Kind}
 
@@ -53,12 +52,12 @@ pub record Ready (kind : Kind) (n : ℕ) (t : Tables) (u v : ℕ) (d : Decision)
   pub view-negated : Negated d.view.pair.nlts.0
 
 -- ready to be finished, or refused with the number that the event answers
-abbrev pub Decides : Kind → ℕ → Tables → ℕ → ℕ → Decided → Type 0
-Decides kind n t u v (As d) = Ready kind n t u v d
-Decides kind n t u v (Refused why) = outcome (said_refused (why_of why)) t ≡ step_at n (event_of kind u v) t
+abbrev pub Decides : Kind → ℕ → Tables → ℕ → ℕ → Result Decision Refusal → Type 0
+Decides kind n t u v (Ok d) = Ready kind n t u v d
+Decides kind n t u v (Err why) = outcome (said_refused (why_of why)) t ≡ step_at n (event_of kind u v) t
 
 -- decided by u's row and the cell of channel v to u, whatever else the tables hold
-abbrev pub DecidesBy : Kind → ℕ → ℕ → ℕ → List ℕ → List ℕ → Decided → Type 0
+abbrev pub DecidesBy : Kind → ℕ → ℕ → ℕ → List ℕ → List ℕ → Result Decision Refusal → Type 0
 DecidesBy kind n u v row cell r =
     (t : Tables) → Between n t u v → row ≡ node_of n u t.nodes → cell ≡ channel_of n v u t.channels → Decides kind n t u v r
 

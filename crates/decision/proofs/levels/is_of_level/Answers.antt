@@ -9,7 +9,7 @@ pub returns-then-contains : goal.returns-then-contains
 unfolding of_level
 returns-then-contains c =
     let inside : member c.args.set c.args.w ≡ true = sym c.contains.ensures ∙ c.if-contains.true in
-    rw (c.level_same.ensures, inside, c.height_of-other.ensures.0)
+    rw (c.level_same.ensures, inside, c.of-other.ensures.0)
 
 pub returns : goal.returns
 unfolding of_level

@@ -20,28 +20,20 @@ turn N row (suc k) h e f =
 
 pub loop-w-init : goal.loop-w-init
 unfolding largest
-loop-w-init c = (omega arith, omega arith, refl)
-
-pub height_of-other-requires : goal.height_of-other-requires
-height_of-other-requires c =
-    let node = c.loop-w.invariant in
-    (c.requires.0, record { low = node.0; high = c.loop-w-test.true }, c.requires.1, c.requires.2)
+loop-w-init c = refl
 
 pub loop-w-preserved : goal.loop-w-preserved
 loop-w-preserved c =
     let l = c.loop-w in
-    let inside = c.contains.ensures in (
-      omega arith,
-      omega arith,
-      elim c.if-contains.branch [
-        | then-contains w ↦
-            turn _ _ l.w l.invariant.0 l.invariant.2
-            (w.level-is ∙ w.larger_of-level.ensures ∙ rw (← inside, w.if-contains.true, w.height_of-other.ensures.0))
-        | else-contains w ↦ turn _ _ l.w l.invariant.0 l.invariant.2 (w.level-is ∙ rw (← inside, w.if-contains.false))
-      ],
-    )
+    let inside = c.contains.ensures in
+    elim c.if-contains.branch [
+      | then-contains w ↦
+          turn _ _ l.w (omega arith) l.invariant
+          (w.level-is ∙ w.larger_of-level.ensures ∙ rw (← inside, w.if-contains.true, w.of-other.ensures.0))
+      | else-contains w ↦ turn _ _ l.w (omega arith) l.invariant (w.level-is ∙ rw (← inside, w.if-contains.false))
+    ]
 
 pub returns : goal.returns
 returns c =
-    let all : c.loop-w.w - 1 ≡ c.args.n = omega arith in
-    rw all at c.loop-w.invariant.2
+    let all : c.loop-w.w - 1 ≡ c.args.views.n = omega arith in
+    rw all at c.loop-w.invariant

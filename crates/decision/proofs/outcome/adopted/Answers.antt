@@ -10,7 +10,7 @@ use Rattle.decision.proofs.outcome.adopted.Goals as goal
 pub returns-then-other-lt-GREATEST_DELTA : goal.returns-then-other-lt-GREATEST_DELTA
 unfolding after_rule
 returns-then-other-lt-GREATEST_DELTA c =
-    let other = c.height_of-other in
+    let other = c.of-other in
     let more = c.one_more-delta in
     let f : SFits w32 other.result.delta = search rules in
     let g : SFits w32 more.result = search rules in
@@ -22,6 +22,6 @@ returns-then-other-lt-GREATEST_DELTA c =
 pub returns : goal.returns
 unfolding after_rule
 returns c =
-    let other = c.height_of-other in
+    let other = c.of-other in
     let f : SFits w32 other.result.delta = search rules in
     (rw (below_suc, ← other.ensures.0, rw (to_z-of_z f) at c.if-other-lt-GREATEST_DELTA.false), tt)

@@ -3,6 +3,7 @@ use Prim.Native.Nat.{ℕ}
 use mathlib.Core.Bool.{Bool}
 use mathlib.Core.Path.{◌≡◌, refl}
 use native.Mathlib.Omega.{arith}
+use Rattle.std.specs.Prelude.{Ok}
 use Rattle.height.specs.declared.Height.{Height}
 use Rattle.height.specs.declared.ReferenceLevel.{ReferenceLevel}
 use Rattle.height.proofs.WordsLaws.{negated_word}
@@ -10,14 +11,13 @@ use Rattle.protocol.specs.declared.Rule.TheVariants.{ChannelUp, ElectSelf, Start
 use Rattle.protocol.specs.declared.Rule.TheVariants.{ReflectRefLevel, PropagateLargestRefLevel, AdoptLpIfPriority, Reply}
 use Rattle.protocol.specs.declared.Rule.{Rule}
 use Rattle.decision.specs.inner.After.{after_rule}
-use Rattle.decision.specs.declared.After.TheVariants.{New}
 use Rattle.decision.proofs.outcome.height_after.Goals as goal
 
 -- the rules of the last arm, U, Q, I and R, leave u's height
 kept : (n : ℕ) (N : ℕ → Bool) (row : ℕ → Height) (u v t : ℕ) (rule : Rule)
     → (rule ≡ ElectSelf → ⊥) → (rule ≡ StartNewRefLevel → ⊥) → (rule ≡ ReflectRefLevel → ⊥)
     → ((l : ReferenceLevel) → rule ≡ PropagateLargestRefLevel l → ⊥) → ((x : ℕ) → rule ≡ AdoptLpIfPriority x → ⊥)
-    → New (row u) ≡ after_rule n N row u v t rule
+    → Ok (row u) ≡ after_rule n N row u v t rule
 unfolding after_rule
 kept n N row u v t ChannelUp e s f p a = refl
 kept n N row u v t ElectSelf e s f p a = absurd (e refl)
@@ -31,7 +31,7 @@ kept n N row u v t Reply e s f p a = refl
 
 pub adopted-requires : goal.adopted-requires
 adopted-requires c =
-    (c.requires.0, rw c.in-AdoptLpIfPriority.is at c.requires.4, c.requires.2, c.requires.3)
+    rw c.in-AdoptLpIfPriority.is at c.requires.4
 
 pub returns-in-ElectSelf : goal.returns-in-ElectSelf
 unfolding after_rule
@@ -57,7 +57,7 @@ returns-in-AdoptLpIfPriority c = (rw c.in-AdoptLpIfPriority.is c.adopted.ensures
 pub returns-in_default : goal.returns-in_default
 returns-in_default c =
     let n = c.in_default in (
-      rw c.height_of.ensures.0
+      rw c.of.ensures.0
           (kept _ _ _ _ _ _ c.args.d.rule n.not-ElectSelf n.not-StartNewRefLevel n.not-ReflectRefLevel n.not-PropagateLargestRefLevel n.not-AdoptLpIfPriority),
-      c.height_of.ensures.1,
+      c.of.ensures.1,
     )

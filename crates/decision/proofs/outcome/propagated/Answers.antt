@@ -10,7 +10,7 @@ use Rattle.decision.proofs.outcome.propagated.Goals as goal
 pub returns-then-least-gt-LEAST_DELTA : goal.returns-then-least-gt-LEAST_DELTA
 unfolding after_rule
 returns-then-least-gt-LEAST_DELTA c =
-    let own = c.height_of-own in
+    let own = c.of-own in
     let least = c.smallest_delta-least in
     let less = c.one_less-delta in
     let f : SFits w32 least.result = search rules in

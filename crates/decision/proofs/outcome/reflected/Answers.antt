@@ -5,5 +5,5 @@ use Rattle.decision.proofs.outcome.reflected.Goals as goal
 
 pub returns : goal.returns
 returns c =
-    let own = c.height_of-own.ensures in
+    let own = c.of-own.ensures in
     (c.height_with.ensures ∙ rw (own.0, update-at), rw c.height_with.ensures own.1)

@@ -4,5 +4,5 @@ use Rattle.decision.proofs.outcome.started.Goals as goal
 
 pub returns : goal.returns
 returns c =
-    let own = c.height_of-own.ensures in
+    let own = c.of-own.ensures in
     (c.height_with.ensures ∙ rw own.0, rw c.height_with.ensures own.1)

@@ -26,12 +26,12 @@ inhabited n s h ne = not-true-is-false _ (λ e. ne (absent_none n s h e))
 
 pub returns-then-set-eq0 : goal.returns-then-set-eq0
 unfolding down_rule
-returns-then-set-eq0 c = rw (none-absent c.args.n c.if-set-eq0.true)
+returns-then-set-eq0 c = rw (none-absent c.args.views.n c.if-set-eq0.true)
 
 pub returns-then-is_sink : goal.returns-then-is_sink
 unfolding down_rule
-returns-then-is_sink c = rw (inhabited c.args.n c.args.set c.requires.4 c.if-set-eq0.false, ← c.is_sink.ensures, c.if-is_sink.true)
+returns-then-is_sink c = rw (inhabited c.args.views.n c.args.set c.requires.1 c.if-set-eq0.false, ← c.is_sink.ensures, c.if-is_sink.true)
 
 pub returns : goal.returns
 unfolding down_rule
-returns c = rw (inhabited c.args.n c.args.set c.requires.4 c.if-set-eq0.false, ← c.is_sink.ensures, c.if-is_sink.false)
+returns c = rw (inhabited c.args.views.n c.args.set c.requires.1 c.if-set-eq0.false, ← c.is_sink.ensures, c.if-is_sink.false)
