@@ -1,5 +1,9 @@
 // The event lines: each is carried out on the tables and printed.
 ghost use Rattle.std.specs.Prelude.{◌≡◌, ◌+◌, ◌^◌, ◌≤◌, ◌<◌, length, drop};
+ghost use Rattle.protocol.specs.Answer.{said, said_refused};
+ghost use Rattle.election.specs.StepOn.{step_on};
+ghost use Rattle.bench_run.specs.Listing.{by_event};
+ghost use Rattle.refusal.specs.Outcome.{outcome};
 ghost use Rattle.commands.specs.Commands.{lines_of, command_of};
 ghost use Rattle.text.specs.inner.Poured.{poured};
 ghost use Rattle.bench_run.specs.inner.OnTables.{command_line_on, after_command_on, event_lines_on, after_lines_on};
@@ -7,6 +11,18 @@ ghost use Rattle.tables.specs.Tables.{tables};
 
 use commands::Command;
 use protocol::Answer;
+
+// The event that a line names is carried out.
+fn carried_out(text: &[u8], n: u32, nodes: &mut [u32], channels: &mut [u32]) -> Answer
+    ensures { outcome (said result) (tables nodes.new channels.new)
+        ≡ by_event (λ e. step_on n e (tables nodes.old channels.old)) (outcome (said_refused (command_of text.now).why) (tables nodes.old channels.old)) (command_of text.now) }
+{
+    match commands::parse(text)? {
+        Command::Up(u, v) => election::up(n, u, v, nodes, channels),
+        Command::Down(u, v) => election::down(n, u, v, nodes, channels),
+        Command::Receive(u, v) => election::receive(n, u, v, nodes, channels),
+    }
+}
 
 // Line k, at an offset of the output.
 fn line(
@@ -23,21 +39,8 @@ fn line(
         × (result ≡ at + length (command_line_on n (tables nodes.old channels.old) k (command_of text.now))) × (result ≤ at + 35)
         × (tables nodes.new channels.new ≡ after_command_on n (tables nodes.old channels.old) (command_of text.now)) }
 {
-    match commands::parse(text) {
-        Command::Up(u, v) => {
-            let answer = election::up(n, u, v, nodes, channels);
-            super::lines::put_answer(out, at, k, answer)
-        }
-        Command::Down(u, v) => {
-            let answer = election::down(n, u, v, nodes, channels);
-            super::lines::put_answer(out, at, k, answer)
-        }
-        Command::Receive(u, v) => {
-            let answer = election::receive(n, u, v, nodes, channels);
-            super::lines::put_answer(out, at, k, answer)
-        }
-        Command::Refused(why) => super::lines::put_answer(out, at, k, Answer::Refused(why)),
-    }
+    let answer = carried_out(text, n, nodes, channels);
+    super::lines::put_answer(out, at, k, answer)
 }
 
 // All lines of the input from an offset on, numbered from 1.

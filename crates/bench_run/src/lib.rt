@@ -3,8 +3,8 @@
 #![tactic(auto)]
 
 ghost use Rattle.std.specs.Prelude.{◌≡◌};
-ghost use Rattle.refusal.specs.Outcome.{outcome};
-ghost use Rattle.bench_run.specs.Run.{said_run, run_on};
+ghost use Rattle.refusal.specs.Outcome.{outcome, said_as};
+ghost use Rattle.bench_run.specs.Run.{run_on};
 
 use refusal::Refusal;
 
@@ -13,22 +13,16 @@ mod lines;
 mod plot;
 mod stations;
 
-// The listing's length in bytes (0), or too little room for it (14).
-#[derive(Clone, Copy)]
-pub enum Ran {
-    Listed(usize),
-    Refused(Refusal),
-}
-
-// The listing of an input goes to the front of the bytes; it is made twice, first to see how long it is.
-pub fn run(input: &[u8], out: &mut [u8]) -> Ran
-    ensures { outcome (said_run result) out.new ≡ run_on input.now out.old }
+// The listing of an input goes to the front of the bytes; it is made twice, first to see how long it is. Its length, or too little
+// room for it (14).
+pub fn run(input: &[u8], out: &mut [u8]) -> Result<usize, Refusal>
+    ensures { outcome (said_as 0 result) out.new ≡ run_on input.now out.old }
 {
     let mut scratch = [0u8; 1];
     let size = plot::list(input, &mut scratch);
     if out.len() < size {
-        return Ran::Refused(Refusal::NoRoom);
+        return Err(Refusal::NoRoom);
     }
     plot::list(input, out);
-    Ran::Listed(size)
+    Ok(size)
 }

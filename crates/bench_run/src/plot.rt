@@ -1,25 +1,12 @@
 // The listing of an input: the plot that its first line names, or "bad plot".
 ghost use Rattle.std.specs.Prelude.{◌≡◌, ◌*◌, ◌≤◌, length, drop};
 ghost use Rattle.commands.specs.Commands.{lines_of};
-ghost use Rattle.tables.specs.Tables.{tables, width, cell_width};
+ghost use Rattle.tables.specs.Tables.{tables};
 ghost use Rattle.tables.specs.inner.Fit.{Sized};
 ghost use Rattle.text.specs.inner.Poured.{poured};
 ghost use Rattle.bench_run.specs.Listing.{plot_listing, listing};
 
 use tables::{MOST_CHANNELS, MOST_NODES};
-
-// Room for the tables of up to 16 nodes.
-fn blank_nodes() -> [u32; MOST_NODES]
-    ensures { length result ≡ 16 * width 16 }
-{
-    [0; MOST_NODES]
-}
-
-fn blank_channels() -> [u32; MOST_CHANNELS]
-    ensures { length result ≡ 16 * 16 * cell_width }
-{
-    [0; MOST_CHANNELS]
-}
 
 // The listing of a plot of n nodes in tables of the right sizes, whose event lines start at an offset of the input.
 fn with_tables(
@@ -34,7 +21,7 @@ fn with_tables(
     ensures { (out.new ≡ poured out.old 0 (plot_listing n (lines_of (drop from input.now))))
         × (result ≡ length (plot_listing n (lines_of (drop from input.now)))) }
 {
-    lent::fresh(n, nodes, channels);
+    let _ = lent::fresh(n, nodes, channels);
     let a = super::lines::put_event_head(out, 0);
     let b = super::events::lines(input, from, n, nodes, channels, out, a);
     let c = super::lines::put_station_head(out, b);
@@ -46,8 +33,8 @@ fn plot(input: &[u8], from: usize, n: u32, out: &mut [u8]) -> usize
     ensures { (out.new ≡ poured out.old 0 (plot_listing n (lines_of (drop from input.now))))
         × (result ≡ length (plot_listing n (lines_of (drop from input.now)))) }
 {
-    let mut nodes = blank_nodes();
-    let mut channels = blank_channels();
+    let mut nodes = [0u32; MOST_NODES];
+    let mut channels = [0u32; MOST_CHANNELS];
     let k = n as usize;
     let a = k * (tables::ROW_HEAD + tables::HEIGHT_SIZE * k);
     let b = k * k * tables::CELL_WIDTH;
@@ -62,9 +49,8 @@ pub fn list(input: &[u8], out: &mut [u8]) -> usize
         return super::lines::put_bad_plot(out);
     }
     let end = commands::line_end(input, 0);
-    let n = commands::head(&input[..end]);
-    if n == 0 {
+    let Some(n) = commands::head(&input[..end]) else {
         return super::lines::put_bad_plot(out);
-    }
+    };
     plot(input, end + 1, n, out)
 }

@@ -23,10 +23,8 @@ pub fn stations(n: u32, nodes: &[u32], out: &mut [u8], at: usize) -> usize
         × (result ≡ at + length (station_lines_on n (tables nodes.now []))) }
 {
     let mut offset = at;
-    let mut u: u32 = 1;
-    while u <= n {
+    for u in 1..n + 1 {
         offset = station(n, u, nodes, out, offset);
-        u += 1;
     }
     offset
 }

@@ -1,18 +1,14 @@
 -- Each return of `in_range`, `head`, `event`, `numbered` and `parse` is what in_range, head_of, named and command_of say.
 use Prim.Native.Nat.{ℕ, suc, ◌+◌, ◌-◌, ◌≤◌, ◌<◌}
 use native.Mathlib.Omega.{arith}
-use mathlib.Core.Bool.{true, false, not, ◌&&◌, and-false}
+use mathlib.Core.Bool.{true, false, ◌&&◌, and-false}
 use mathlib.Core.List.{List, [], ◌∷◌}
 use mathlib.Core.Path.{◌≡◌, refl, ap, ap₂, ◌∙◌}
-use borrow.Author.Tests.{eq-eqb, ne_eqb, not-true, not-false}
+use borrow.Author.Tests.{ne_eqb, lt-ltb}
 use lib.Dec.{eqb, leb, ltb}
-use lib.ListN.{length, get_or, take, drop, length-drop, drop_of_length-le}
-use lib.Seq.{take_all}
-use Rattle.commands.specs.Commands.{SaidCommand, said_event, said_malformed, number_of, in_range, to_space, named, command_of, head_of}
-
--- a part from k to the end is all but k bytes
-pub tail : (l : List ℕ) (k : ℕ) → take (length l - k) (drop k l) ≡ drop k l
-tail l k = take_all (length l - k) (drop k l) (omega (arith, length-drop k l))
+use lib.ListN.{length, get_or, take, drop, drop_of_length-le}
+use Rattle.std.proofs.lemmas.List.{take_rest}
+use Rattle.commands.specs.Commands.{SaidCommand, none, said_event, said_malformed, number_of, in_range, to_space, named, command_of, head_of}
 
 second_short : (l : List ℕ) → length l < 2 → get_or l 1 0 ≡ 0
 second_short [] h = refl
@@ -42,26 +38,31 @@ head-none l e = rw e
 -- ---- a letter and two numbers
 
 module _ (kind u v : ℕ) where
-  pub named-unfit : not (ltb u 100 && ltb v 100) ≡ true → said_malformed ≡ named kind u v
+  -- a number that is missing
+  pub named-first : 100 ≡ u → said_malformed ≡ named kind u v
   unfolding named
-  named-unfit e = rw (not-true (ltb u 100 && ltb v 100) e)
+  named-first e = rw (← e)
 
-  module _ (fit : not (ltb u 100 && ltb v 100) ≡ false) where
+  pub named-second : 100 ≡ v → said_malformed ≡ named kind u v
+  unfolding named
+  named-second e = rw (← e, and-false (ltb u 100))
+
+  module _ (fit : (u < 100) × (v < 100)) where
     pub named-up : kind ≡ 85 → said_event 85 u v ≡ named kind u v
     unfolding named
-    named-up e = rw (not-false (ltb u 100 && ltb v 100) fit, eq-eqb kind 85 e)
+    named-up e = rw (lt-ltb u 100 fit.0, lt-ltb v 100 fit.1, e)
 
-    pub named-down : (kind ≡ 85 → ⊥) → kind ≡ 68 → said_event 68 u v ≡ named kind u v
+    pub named-down : kind ≡ 68 → said_event 68 u v ≡ named kind u v
     unfolding named
-    named-down d e = rw (not-false (ltb u 100 && ltb v 100) fit, ne_eqb kind 85 d, eq-eqb kind 68 e)
+    named-down e = rw (lt-ltb u 100 fit.0, lt-ltb v 100 fit.1, e)
 
-    pub named-receive : (kind ≡ 85 → ⊥) → (kind ≡ 68 → ⊥) → kind ≡ 77 → said_event 77 u v ≡ named kind u v
+    pub named-receive : kind ≡ 77 → said_event 77 u v ≡ named kind u v
     unfolding named
-    named-receive d e f = rw (not-false (ltb u 100 && ltb v 100) fit, ne_eqb kind 85 d, ne_eqb kind 68 e, eq-eqb kind 77 f)
+    named-receive e = rw (lt-ltb u 100 fit.0, lt-ltb v 100 fit.1, e)
 
     pub named_none : (kind ≡ 85 → ⊥) → (kind ≡ 68 → ⊥) → (kind ≡ 77 → ⊥) → said_malformed ≡ named kind u v
     unfolding named
-    named_none d e f = rw (not-false (ltb u 100 && ltb v 100) fit, ne_eqb kind 85 d, ne_eqb kind 68 e, ne_eqb kind 77 f)
+    named_none d e f = rw (lt-ltb u 100 fit.0, lt-ltb v 100 fit.1, ne_eqb kind 85 d, ne_eqb kind 68 e, ne_eqb kind 77 f)
 
 -- ---- an event line
 
@@ -76,13 +77,23 @@ module _ (kind : ℕ) (l : List ℕ) (k : ℕ) (at : k ≡ to_space l) where
       let past : length l ≤ suc (to_space l) = omega arith in
       rw (drop_of_length-le l past, and-false (ltb (number_of (take (to_space l) l)) 100))
 
+  first-at : (u : ℕ) → u ≡ number_of (take k l) → u ≡ number_of (take (to_space l) l)
+  first-at u p = p ∙ ap (λ j. number_of (take j l)) at
+
+  second-at : (v : ℕ) → v ≡ number_of (take (length l - (k + 1)) (drop (k + 1) l)) → v ≡ number_of (drop (suc (to_space l)) l)
+  second-at v q =
+      let next : k + 1 ≡ suc (to_space l) = omega arith in
+      q ∙ ap number_of (take_rest l (k + 1)) ∙ ap (λ j. number_of (drop j l)) next
+
+  pub first-missing : none ≡ number_of (take k l) → said_malformed ≡ numbered_of kind l
+  first-missing p = named-first _ _ _ (first-at none p)
+
+  pub second-missing : none ≡ number_of (take (length l - (k + 1)) (drop (k + 1) l)) → said_malformed ≡ numbered_of kind l
+  second-missing q = named-second _ _ _ (second-at none q)
+
   pub numbered_is : (u v : ℕ) → u ≡ number_of (take k l) → v ≡ number_of (take (length l - (k + 1)) (drop (k + 1) l))
       → named kind u v ≡ numbered_of kind l
-  numbered_is u v p q =
-      let first : u ≡ number_of (take (to_space l) l) = p ∙ ap (λ j. number_of (take j l)) at in
-      let next : k + 1 ≡ suc (to_space l) = omega arith in
-      let second : v ≡ number_of (drop (suc (to_space l)) l) = q ∙ ap number_of (tail l (k + 1)) ∙ ap (λ j. number_of (drop j l)) next in
-      ap₂ (named kind) first second
+  numbered_is u v p q = ap₂ (named kind) (first-at u p) (second-at v q)
 
 pub command-short : (l : List ℕ) → length l < 2 → said_malformed ≡ command_of l
 unfolding command_of

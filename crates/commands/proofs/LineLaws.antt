@@ -8,9 +8,9 @@ use borrow.Author.Tests.{leb-true}
 use lib.Dec.{eqb, leb}
 use lib.ListN.{length, get_or, take, drop, length-drop, drop_of_length-le}
 use lib.Seq.{drop-drop}
+use Rattle.std.proofs.lemmas.Bool.{and_parts}
 use Rattle.commands.specs.Commands.{on_first, lines_of, number_of, in_range, head_of}
 use Rattle.commands.specs.inner.Leaves.{to_newline}
-use Rattle.commands.proofs.NumberLaws.{and_right}
 
 -- ---- the lines
 
@@ -50,7 +50,7 @@ lines_at bs at r h e =
 -- ---- the first line
 
 range-high : (n : ℕ) (t : Bool) → (leb 1 n && leb n 16) ≡ t → cond t n 0 ≤ 16
-range-high n true e = leb-true n 16 (and_right (leb 1 n) (leb n 16) e)
+range-high n true e = leb-true n 16 (and_parts (leb 1 n) (leb n 16) e).1
 range-high n false e = omega arith
 
 pub head-range : (l : List ℕ) → head_of l ≤ 16

@@ -7,19 +7,11 @@ use mathlib.Core.Path.{◌≡◌, refl, sym, ◌∙◌}
 use borrow.Author.Tests.{leb-true}
 use lib.Dec.{eqb, leb}
 use lib.ListN.{length, get_or}
+use Rattle.std.proofs.lemmas.Bool.{and_parts}
 use Rattle.commands.specs.Commands.{none, is_digit, number_of}
 
-pub and_left : (a b : Bool) → (a && b) ≡ true → a ≡ true
-and_left true b e = refl
-and_left false b e = e
-
-pub and_right : (a b : Bool) → (a && b) ≡ true → b ≡ true
-and_right true b e = e
-and_right false true e = refl
-and_right false false e = e
-
 pub digit_low : (a : ℕ) → is_digit a ≡ true → 48 ≤ a
-digit_low a e = leb-true 48 a (and_left (leb 48 a) (leb a 57) e)
+digit_low a e = leb-true 48 a (and_parts (leb 48 a) (leb a 57) e).0
 
 -- ---- one digit: t is what `is_digit` answers
 
@@ -37,8 +29,8 @@ module _ (a : ℕ) (t : Bool) (d : t ≡ is_digit a) where
 module _ (a b : ℕ) (s t : Bool) (d : s ≡ is_digit a) (e : t ≡ is_digit b) where
   pub two-low : (s && t && not (eqb a 48)) ≡ true → (48 ≤ a) × (48 ≤ b)
   two-low h =
-      let st = and_left (s && t) (not (eqb a 48)) h in
-      (digit_low a (sym d ∙ and_left s t st), digit_low b (sym e ∙ and_right s t st))
+      let st = and_parts s t (and_parts (s && t) (not (eqb a 48)) h).0 in
+      (digit_low a (sym d ∙ st.0), digit_low b (sym e ∙ st.1))
 
   pub two_is : (s && t && not (eqb a 48)) ≡ true → 10 * (a - 48) + (b - 48) ≡ number_of (a ∷ b ∷ [])
   unfolding number_of

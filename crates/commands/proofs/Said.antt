@@ -5,27 +5,29 @@ use mathlib.Core.List.{List}
 use mathlib.Core.Path.{◌≡◌, refl, sym, ap, ◌∙◌}
 use lib.Dec.{eqb, ltb}
 use lib.ListN.{get_or}
+use Rattle.std.proofs.Common.{Result, Ok, Err}
+use Rattle.refusal.specs.declared.Refusal.{Refusal}
 use Rattle.refusal.proofs.RefusalLaws.{reason_from, reason-back}
 use Rattle.commands.specs.Commands.{SaidCommand, said_event, said_malformed, none, named, command_of}
 use Rattle.commands.specs.inner.Leaves.{said_command}
-use Rattle.commands.specs.declared.Command.TheVariants.{Up, Down, Receive, Refused}
+use Rattle.commands.specs.declared.Command.TheVariants.{Up, Down, Receive}
 use Rattle.commands.specs.declared.Command.{Command}
 
 -- ---- the command from what it says
 
-command_from : SaidCommand → Command
+command_from : SaidCommand → Result Command Refusal
 command_from s =
-    cond (eqb s.value.letter 85) (Up s.value.first s.value.second) (cond (eqb s.value.letter 68) (Down s.value.first s.value.second)
-    (cond (eqb s.value.letter 77) (Receive s.value.first s.value.second) (Refused (reason_from s.why))))
+    cond (eqb s.value.letter 85) (Ok (Up s.value.first s.value.second)) (cond (eqb s.value.letter 68) (Ok (Down s.value.first s.value.second))
+    (cond (eqb s.value.letter 77) (Ok (Receive s.value.first s.value.second)) (Err (reason_from s.why))))
 
-command-back : (c : Command) → command_from (said_command c) ≡ c
+command-back : (c : Result Command Refusal) → command_from (said_command c) ≡ c
 unfolding command_from
-command-back (Up u v) = refl
-command-back (Down u v) = refl
-command-back (Receive u v) = refl
-command-back (Refused r) = ap Refused (reason-back r)
+command-back (Ok (Up u v)) = refl
+command-back (Ok (Down u v)) = refl
+command-back (Ok (Receive u v)) = refl
+command-back (Err r) = ap Err (reason-back r)
 
-pub said-command-injective : (c d : Command) → said_command c ≡ said_command d → c ≡ d
+pub said-command-injective : (c d : Result Command Refusal) → said_command c ≡ said_command d → c ≡ d
 said-command-injective c d e = sym (command-back c) ∙ (ap command_from e ∙ command-back d)
 
 -- ---- what an event line says: 0 with U, D or M and two numbers, or 15

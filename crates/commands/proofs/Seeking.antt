@@ -1,51 +1,46 @@
--- A walk to the first byte x: f counts how many bytes stand before it, as to_space and to_newline do. Both loops go by these laws.
-use Prim.Native.Nat.{ℕ, suc, ◌+◌, ◌≤◌, ◌<◌}
-use native.Mathlib.Numerals.{add-one}
+-- What stands before the first byte x: to_space and to_newline count it, and `position` finds it.
+use Prim.Native.Nat.{ℕ, ◌≤◌}
 use native.Mathlib.Omega.{arith}
-use mathlib.Core.Bool.{cond}
-use mathlib.Core.List.{List, [], ◌∷◌}
+use mathlib.Core.Bool.{Bool, true, false, cond}
+use mathlib.Core.List.{List}
 use mathlib.Core.Path.{◌≡◌, refl, ap, ◌∙◌}
-use borrow.Author.Tests.{eq-eqb, ne_eqb}
-use lib.Dec.{eqb}
-use lib.ListN.{length, get_or, drop, drop_of_length-le}
-use lib.Seq.{drop-cons}
+use borrow.Author.Tests.{ltb-false}
+use lib.Dec.{eqb, ltb}
+use lib.ListN.{length}
+use Rattle.std.proofs.Common.{Some, None, Option}
+use Rattle.std.specs.List.{position_or_len}
+use Rattle.std.specs.Option.{unwrap_or}
+use Rattle.std.proofs.lemmas.List.Recursion.{is_position_or_len}
+use Rattle.std.proofs.lemmas.List.Sums.{prefix_len-le-length}
 use Rattle.commands.specs.Commands.{to_space}
 use Rattle.commands.specs.inner.Leaves.{to_newline}
 
-pub record Seeks (x : ℕ) (f : List ℕ → ℕ) : Type 0 where
-  pub none : f [] ≡ 0
-  pub more : (b : ℕ) (bs : List ℕ) → f (b ∷ bs) ≡ cond (eqb b x) 0 (suc (f bs))
+-- the test that finds byte x
+abbrev pub is_byte : ℕ → ℕ → Bool
+is_byte x b = eqb b x
 
-pub spaces : Seeks 32 to_space
+pub spaces : (bs : List ℕ) → to_space bs ≡ position_or_len (is_byte 32) bs
 unfolding to_space
-spaces = record { none = refl; more = λ b bs. refl }
+spaces = is_position_or_len to_space (is_byte 32) refl (λ b bs. ap (cond (eqb b 32) 0) (omega arith))
 
-pub newlines : Seeks 10 to_newline
+pub newlines : (bs : List ℕ) → to_newline bs ≡ position_or_len (is_byte 10) bs
 unfolding to_newline
-newlines = record { none = refl; more = λ b bs. refl }
+newlines = is_position_or_len to_newline (is_byte 10) refl (λ b bs. ap (cond (eqb b 10) 0) (omega arith))
 
--- from `at` to k: what is counted from k on is the rest of what is counted from `at` on
-pub record Walked (f : List ℕ → ℕ) (bs : List ℕ) (at k : ℕ) : Type 0 where
-  pub low : at ≤ k
-  pub high : k ≤ length bs
-  pub rest : k + f (drop k bs) ≡ at + f (drop at bs)
+-- the place that `position` answers, or the length where it answers none
+module _ (x : ℕ) (bs : List ℕ) where
+  abbrev p : ℕ
+  p = position_or_len (is_byte x) bs
 
-pub start : (f : List ℕ → ℕ) (bs : List ℕ) (at : ℕ) → at ≤ length bs → Walked f bs at at
-start f bs at h = record { low = omega arith; high = h; rest = refl }
+  within : p ≤ length bs
+  within = prefix_len-le-length _ bs
 
-module _ {x : ℕ} {f : List ℕ → ℕ} (s : Seeks x f) where
-  at_byte : (bs : List ℕ) (k : ℕ) → k < length bs → f (drop k bs) ≡ cond (eqb (get_or bs k 0) x) 0 (suc (f (drop (suc k) bs)))
-  at_byte bs k h = ap f (drop-cons bs k 0 h) ∙ s.more (get_or bs k 0) (drop (suc k) bs)
+  place : (t : Bool) → ltb p (length bs) ≡ t → unwrap_or (cond t (Some p) None) (length bs) ≡ p
+  place true e = refl
+  place false e = omega (arith, within, ltb-false p (length bs) e)
 
-  module _ {bs : List ℕ} {at k : ℕ} (w : Walked f bs at k) where
-    pub next : k < length bs → (get_or bs k 0 ≡ x → ⊥) → Walked f bs at (k + 1)
-    next h d =
-        let one : f (drop k bs) ≡ suc (f (drop (suc k) bs)) = at_byte bs k h ∙ rw (ne_eqb (get_or bs k 0) x d) in
-        let w' : Walked f bs at (suc k) = record { low = omega arith; high = omega arith; rest = omega arith } in
-        rw add-one w'
-
-    pub found : k < length bs → get_or bs k 0 ≡ x → k ≡ at + f (drop at bs)
-    found h e = let nought : f (drop k bs) ≡ 0 = at_byte bs k h ∙ rw (eq-eqb (get_or bs k 0) x e) in omega arith
-
-    pub ended : length bs ≤ k → k ≡ at + f (drop at bs)
-    ended h = let nought : f (drop k bs) ≡ 0 = ap f (drop_of_length-le bs h) ∙ s.none in omega arith
+  pub found : (m : ℕ) → m ≡ p → (r : Option ℕ) → r ≡ cond (ltb p (length bs)) (Some p) None → (n : ℕ) → n ≡ unwrap_or r (length bs)
+      → (n ≡ m) × (n ≤ length bs)
+  found m c r at n e =
+      let here : n ≡ p = rw at at e ∙ place (ltb p (length bs)) refl in
+      (omega arith, omega (arith, within))

@@ -12,7 +12,7 @@ pub struct Edge {
     pub second: u32,
 }
 
-// The form of a text: how many node lines it has (0: it is not of the form), and where its edge lines start.
+// The form of a text: how many node lines it has, and where its edge lines start.
 #[derive(Clone, Copy)]
 pub struct Form {
     pub nodes: u32,

@@ -1,5 +1,5 @@
 // The form of a text: the head, the lines of nodes 1, 2, .., the edge lines, the foot. A line is looked for by writing it and comparing.
-ghost use Rattle.std.specs.Prelude.{◌≡◌, cond, ◌+◌, ◌≤◌, length, drop};
+ghost use Rattle.std.specs.Prelude.{◌≡◌, cond, ◌+◌, ◌≤◌, length, drop, IfNone, IfSome};
 ghost use Rattle.text.specs.Text.{in_turn};
 ghost use Rattle.basics.specs.Bytes.{same_bytes};
 ghost use Rattle.dot.specs.Graph.{foot, node_line, dash, edge_line, edge_lines};
@@ -9,28 +9,14 @@ ghost use Rattle.dot.specs.inner.Ahead.{Ahead};
 use super::{Edge, Form, lines};
 
 // Room for one line.
-fn blank() -> [u8; 32]
-    ensures { length result ≡ 32 }
-{
-    [0; 32]
-}
+const LINE: usize = 32;
 
 // Whether these bytes stand at an offset.
 fn starts_with(text: &[u8], at: usize, bytes: &[u8]) -> bool
     requires { at ≤ length text.now }
     ensures { result ≡ starts_with bytes.now (drop at text.now) }
 {
-    let mut k: usize = 0;
-    while k < bytes.len() {
-        if text.len() - at <= k {
-            return false;
-        }
-        if text[at + k] != bytes[k] {
-            return false;
-        }
-        k += 1;
-    }
-    true
+    text[at..].starts_with(bytes)
 }
 
 // ---- the numbers of an edge line
@@ -57,7 +43,7 @@ fn number_at(text: &[u8], at: usize) -> u32
     if text.len() < end {
         return 100;
     }
-    commands::number(&text[at..end])
+    commands::number(&text[at..end]).unwrap_or(100)
 }
 
 // The edge whose line starts at an offset.
@@ -75,7 +61,7 @@ pub fn edge_at(text: &[u8], at: usize) -> Edge
 pub fn edge_size(e: Edge) -> usize
     ensures { result ≡ length (edge_line dash e) }
 {
-    let mut line = blank();
+    let mut line = [0u8; LINE];
     lines::put_edge(&mut line, 0, b'-', e)
 }
 
@@ -85,7 +71,7 @@ fn node_line_at(text: &[u8], at: usize, k: u32) -> usize
     requires { at ≤ length text.now }
     ensures { result ≡ cond (starts_with (node_line k) (drop at text.now)) (length (node_line k)) 0 }
 {
-    let mut line = blank();
+    let mut line = [0u8; LINE];
     let size = lines::put_node(&mut line, 0, k);
     if starts_with(text, at, &line[..size]) {
         return size;
@@ -101,7 +87,7 @@ fn edge_line_at(text: &[u8], at: usize) -> usize
     if !((e.first < 100) & (e.second < 100)) {
         return 0;
     }
-    let mut line = blank();
+    let mut line = [0u8; LINE];
     let size = lines::put_edge(&mut line, 0, b'-', e);
     if starts_with(text, at, &line[..size]) {
         return size;
@@ -118,8 +104,7 @@ fn nodes_from(text: &[u8], at: usize) -> Form
         × (result.edges ≤ length text.now) }
 {
     let mut end = at;
-    let mut k: u32 = 1;
-    while k <= 16 {
+    for k in 1..17 {
         let size = node_line_at(text, end, k);
         if size == 0 {
             return Form {
@@ -128,7 +113,6 @@ fn nodes_from(text: &[u8], at: usize) -> Form
             };
         }
         end += size;
-        k += 1;
     }
     Form {
         nodes: 16,
@@ -152,12 +136,6 @@ fn edges_end(text: &[u8], at: usize) -> usize
     end
 }
 
-fn no_form() -> Form
-    ensures { result.nodes ≡ 0 }
-{
-    Form { nodes: 0, edges: 0 }
-}
-
 // Whether the foot stands at an offset, and nothing behind it.
 fn ends_at(text: &[u8], at: usize) -> bool
     requires { at ≤ length text.now }
@@ -166,21 +144,22 @@ fn ends_at(text: &[u8], at: usize) -> bool
     (text.len() - at == 2) & starts_with(text, at, b"}\n")
 }
 
-// The form of a text.
-pub fn form(text: &[u8]) -> Form
-    ensures { (result.nodes ≡ (sketch_of text.now).value.nodes)
-        × ((result.nodes ≡ 0 → ⊥) → Ahead text.now result.edges (sketch_of text.now).value.edges) }
+// The form of a text, if it has one.
+pub fn form(text: &[u8]) -> Option<Form>
+    ensures none { IfNone result ((sketch_of text.now).value.nodes ≡ 0) }
+    ensures some { IfSome result (λ form. (form.nodes ≡ (sketch_of text.now).value.nodes) × (1 ≤ form.nodes)
+        × Ahead text.now form.edges (sketch_of text.now).value.edges) }
 {
     if !starts_with(text, 0, b"graph plot {\n") {
-        return no_form();
+        return None;
     }
     let found = nodes_from(text, 13);
     if found.nodes == 0 {
-        return no_form();
+        return None;
     }
     let end = edges_end(text, found.edges);
     if !ends_at(text, end) {
-        return no_form();
+        return None;
     }
-    found
+    Some(found)
 }

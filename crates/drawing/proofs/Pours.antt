@@ -1,54 +1,24 @@
 -- The steps of writing: looks at tables in which the check found no fault, and the text poured line by line.
-use Prim.Native.Nat.{ℕ, zero, suc, ◌*◌, ◌≤◌, ◌<◌}
+use Prim.Native.Nat.{ℕ, zero, suc, ◌≤◌}
 use native.Mathlib.Nat.{add-zero, mul-le-mul}
 use native.Mathlib.Omega.{arith}
-use mathlib.Core.Bool.{Bool, true, false, ◌&&◌, ◌||◌}
+use mathlib.Core.Bool.{Bool, true, false, ◌&&◌}
 use mathlib.Core.List.{List, [], ◌∷◌, ◌++◌, append-nil, append_assoc, flat_map}
-use mathlib.Core.Path.{◌≡◌, refl, sym, ap, ap₂, ◌∙◌}
+use mathlib.Core.Path.{◌≡◌, refl, sym, ap, ◌∙◌}
 use lib.ListN.{length}
 use Rattle.dot.specs.Graph.{edge, digraph_head, foot, node_line, arrow, edge_line, edge_lines, text_of}
 use Rattle.dot.specs.declared.Edge.{Edge}
 use Rattle.dot.proofs.Pieces.{edge-le, node-le}
-use Rattle.groups.proofs.LookLaws.{neighbors-small, forming-small}
 use Rattle.height.specs.Height.{height_key}
 use Rattle.height.specs.Order.{before}
 use Rattle.height.specs.declared.Height.{Height}
-use Rattle.lent.specs.Check.{check_on}
-use Rattle.lent.proofs.CheckLaws.{sound-sized}
-use Rattle.nodeset.specs.NodeSet.{member}
-use Rattle.protocol.specs.Network.{Node, Network, up_to, own}
-use Rattle.tables.specs.Load.{load}
-use Rattle.tables.specs.Row.{neighbors_in, forming_in, height_in}
-use Rattle.tables.specs.Tables.{Tables, row_head, width, node_of}
-use Rattle.tables.proofs.TablesLaws.{load-neighbors, load-forming, load-height}
+use Rattle.protocol.specs.Network.{Network, up_to, own}
 use Rattle.text.specs.Text.{in_turn}
 use Rattle.text.specs.inner.Poured.{poured}
 use Rattle.text.proofs.PourLaws.{Poured, in-turn-le, in-turn-same}
 use Rattle.drawing.specs.Drawing.{points, arrow_to, arrows_of, drawing}
 
 -- ---- looks
-
--- the row that is read, and its sets
-module _ (n : ℕ) (t : Tables) (h : (check_on n t).number ≡ 0) (u : ℕ) (node : Node n u) where
-  pub row-given : (n ≤ 16) × Node n u × (length t.nodes ≡ n * width n)
-  row-given = let s = sound-sized n t h in (s.few, node, s.nodes)
-
-  module _ {row : List ℕ} (e : row ≡ node_of n u t.nodes) (l : length row ≡ width n) where
-    pub neighbors-fit : (row_head ≤ length row) × (neighbors_in row < 65536)
-    neighbors-fit = (omega (arith, l), omega (arith, ap neighbors_in e, neighbors-small n t (record { sound = h }) u node))
-
-    pub forming-fit : (row_head ≤ length row) × (forming_in row < 65536)
-    forming-fit = (omega (arith, l), omega (arith, ap forming_in e, forming-small n t (record { sound = h }) u node))
-
-module _ (n : ℕ) (t : Tables) (u : ℕ) (node : Node n u) where
-  pub up_is : (v : ℕ) {row : List ℕ} {a b : ℕ} {s f : Bool} → row ≡ node_of n u t.nodes → a ≡ neighbors_in row → b ≡ forming_in row
-      → s ≡ member a v → f ≡ member b v → (s || f) ≡ up_to (load n t) u v
-  up_is v r a b s f =
-      ap₂ (λ (x y : Bool). x || y) (s ∙ ap (λ (w : ℕ). member w v) (a ∙ ap neighbors_in r)) (f ∙ ap (λ (w : ℕ). member w v) (b ∙ ap forming_in r))
-      ∙ sym (ap₂ (λ (x y : ℕ → Bool). x v || y v) (load-neighbors n t u node) (load-forming n t u node))
-
-  pub own_is : {row : List ℕ} {h : Height} → row ≡ node_of n u t.nodes → h ≡ height_in row u → h ≡ own (load n t) u
-  own_is r e = e ∙ ap (λ (l : List ℕ). height_in l u) r ∙ sym (ap (λ (r : ℕ → Height). r u) (load-height n t u node))
 
 pub points-is : (p : Network) (a b : ℕ) {x y z : Bool} {low high : Height} → x ≡ up_to p a b → y ≡ up_to p b a → low ≡ own p b → high ≡ own p a
     → z ≡ before (height_key low) (height_key high) → (x && y && z) ≡ points p a b

@@ -1,5 +1,6 @@
 -- The steps of `read`: 16, 1, 17, or the plot.
 use Prim.Native.Nat.{ℕ, ◌≤◌}
+use native.Mathlib.Omega.{arith}
 use mathlib.Core.Bool.{Bool, true, false}
 use mathlib.Core.List.{List, []}
 use mathlib.Core.Path.{◌≡◌, refl, sym, ap, ◌∙◌}
@@ -14,19 +15,19 @@ use Rattle.drawing.specs.Links.{links_hold, ups_of}
 use Rattle.drawing.specs.Read.{read_links, read_sized, read_sketch, read_on}
 use Rattle.drawing.specs.inner.Seen.{edges_read}
 
-pub few : (xs : List ℕ) (k : ℕ) → k ≡ (sketch_of xs).value.nodes → (k ≡ 0 → ⊥) → k ≤ 16
-few xs k is some = rw is (nodes-some xs (λ z. some (is ∙ z))).1.few
+pub few : (xs : List ℕ) (k : ℕ) → k ≡ (sketch_of xs).value.nodes → 1 ≤ k → k ≤ 16
+few xs k is some = rw is (nodes-some xs (λ z. absurd (omega (arith, is, z)))).1.few
+
+pub read_none : (xs : List ℕ) (t : Tables) → (sketch_of xs).value.nodes ≡ 0 → outcome (why 16 0 0) t ≡ read_on xs t
+unfolding read_on read_sketch
+read_none xs t z = sym (ap (λ (s : Answered Sketch). read_sketch s t) (nodes-none xs z))
 
 module _ (xs : List ℕ) (t : Tables) (k : ℕ) (is : k ≡ (sketch_of xs).value.nodes) where
-  pub read_none : k ≡ 0 → outcome (why 16 0 0) t ≡ read_on xs t
-  unfolding read_on read_sketch
-  read_none z = sym (ap (λ (s : Answered Sketch). read_sketch s t) (nodes-none xs (sym is ∙ z)))
-
-  module _ (some : k ≡ 0 → ⊥) where
+  module _ (some : 1 ≤ k) where
     read_some : read_on xs t ≡ read_sized k (edges_read xs) t
     unfolding read_on read_sketch
     read_some =
-        ap (λ (s : Answered Sketch). read_sketch s t) (nodes-some xs (λ z. some (is ∙ z))).0
+        ap (λ (s : Answered Sketch). read_sketch s t) (nodes-some xs (λ z. absurd (omega (arith, is, z)))).0
         ∙ ap (λ (n : ℕ). read_sized n (edges_read xs) t) (sym is)
 
     module _ (b : Bool) (s : b ≡ sized k t) where

@@ -1,18 +1,10 @@
 -- Drawing lent tables: what it answers and what the lent bytes are afterwards. It checks 1, 2, 18, 14; bytes past the drawing are not touched.
 use Rattle.std.specs.Prelude.{ℕ, ◌+◌, ◌-◌, ◌*◌, cond, ◌&&◌, List, leb, ltb}
 use Rattle.lent.specs.Check.{check_on}
-use Rattle.refusal.specs.Outcome.{Answered, Outcome, accepted, put_checked, refused_with}
-use Rattle.refusal.specs.Refusal.{why_of}
+use Rattle.refusal.specs.Outcome.{Answered, Outcome, put_checked}
 use Rattle.tables.specs.Load.{load}
 use Rattle.tables.specs.Tables.{Tables}
 use Rattle.drawing.specs.Drawing.{drawing}
-use Rattle.drawing.specs.declared.Drawn.{Drawn}
-use Rattle.drawing.specs.declared.Drawn.TheVariants.{Written, Refused}
-
--- 0 and the drawing's length in bytes; or 1, 2 or 18 with the pair, 14
-abbrev pub said_drawn : Drawn → Answered ℕ
-said_drawn (Written size) = accepted size
-said_drawn (Refused r) = refused_with 0 (why_of r)
 
 -- 1, 2 or 18 by the check of the tables, else 14 or the drawing
 unfoldable pub draw_on : ℕ → Tables → List ℕ → Outcome (Answered ℕ) (List ℕ)

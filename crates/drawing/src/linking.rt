@@ -1,5 +1,5 @@
 // The links of a sketch: refusal 17, then the fresh plot and both ups of each link.
-ghost use Rattle.std.specs.Prelude.{◌≡◌, not, ◌&&◌, [], ◌∷◌, List, ℕ, ◌-◌, ◌≤◌, length, get_or};
+ghost use Rattle.std.specs.Prelude.{◌≡◌, not, ◌&&◌, [], ◌∷◌, List, ◌-◌, ◌≤◌, length, get_or};
 ghost use Rattle.calls.specs.History.{grown};
 ghost use Rattle.dot.specs.inner.Ahead.{Ahead};
 ghost use Rattle.dot.specs.declared.Edge.{Edge};
@@ -16,13 +16,6 @@ ghost use Rattle.tables.specs.Tables.{tables};
 use dot::Edge;
 
 // ---- 17
-
-// No pair named yet: a set for each node.
-fn blank() -> [u16; 16]
-    ensures { (n : ℕ) → Seen n [] result }
-{
-    [0; 16]
-}
 
 // Two different nodes.
 fn is_link(n: u32, e: Edge) -> bool
@@ -75,7 +68,7 @@ pub fn hold(n: u32, text: &[u8], from: usize) -> bool
     requires { (n ≤ 16) × Ahead text.now from (edges_read text.now) }
     ensures { result ≡ links_hold n [] (edges_read text.now) }
 {
-    let mut seen = blank();
+    let mut seen = [0u16; 16];
     all_new(n, text, from, &mut seen)
 }
 
@@ -86,8 +79,8 @@ fn link(n: u32, e: Edge, nodes: &mut [u32], channels: &mut [u32])
     ensures { tables nodes.new channels.new
         ≡ (step_on n (up e.second e.first) (step_on n (up e.first e.second) (tables nodes.old channels.old)).after).after }
 {
-    election::up(n, e.first, e.second, nodes, channels);
-    election::up(n, e.second, e.first, nodes, channels);
+    let _ = election::up(n, e.first, e.second, nodes, channels);
+    let _ = election::up(n, e.second, e.first, nodes, channels);
 }
 
 // From an offset on, line by line.
@@ -107,6 +100,6 @@ pub fn build(n: u32, text: &[u8], from: usize, nodes: &mut [u32], channels: &mut
     requires { Sized n (tables nodes.old channels.old) × Ahead text.now from (edges_read text.now) }
     ensures { tables nodes.new channels.new ≡ tables_of n (grown n (ups_of (edges_read text.now))).network }
 {
-    lent::fresh(n, nodes, channels);
+    let _ = lent::fresh(n, nodes, channels);
     link_all(n, text, from, nodes, channels);
 }

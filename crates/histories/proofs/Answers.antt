@@ -12,7 +12,8 @@ use Rattle.enumeration.specs.Texts.{list_text}
 use Rattle.protocol.specs.Network.{fresh}
 use Rattle.refusal.specs.Outcome.{Answered, Outcome, accepted, outcome, refused_with}
 use Rattle.refusal.specs.Refusal.{why}
-use Rattle.histories.specs.ListOn.{Extent, is_plot, is_short, list_on, list_length}
+use Rattle.histories.specs.declared.Extent.{Extent}
+use Rattle.histories.specs.ListOn.{is_plot, is_short, list_on, list_length}
 use Rattle.histories.proofs.ListLaws.{plot-nodes, short-size, sizes-done, large-done, no-room-done, front-done, length-is}
 
 -- 1 outside 1 to 16, whatever the length; 19 above 3 nodes or 5 events; 14 where the whole text does not fit; else the text

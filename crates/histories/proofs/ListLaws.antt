@@ -14,7 +14,8 @@ use Rattle.enumeration.specs.Histories.{histories}
 use Rattle.enumeration.specs.Texts.{list_text}
 use Rattle.enumeration.proofs.Sizes.{whole-small, count-is}
 use Rattle.protocol.specs.Network.{fresh}
-use Rattle.refusal.specs.Outcome.{accepted, outcome}
+use Rattle.std.proofs.Common.{Ok, Err}
+use Rattle.refusal.specs.Outcome.{accepted, outcome, said_as}
 use Rattle.refusal.specs.Refusal.{why, why_of}
 use Rattle.refusal.specs.declared.Refusal.{Refusal}
 use Rattle.refusal.specs.declared.Refusal.TheVariants.{Sizes, NoRoom, TooLarge}
@@ -25,8 +26,7 @@ use Rattle.tables.specs.Tables.{Tables, tables, width, cell_width}
 use Rattle.tables.specs.inner.Fit.{Sized}
 use Rattle.text.specs.inner.Poured.{poured}
 use Rattle.text.proofs.FrontLaws.{no_room, room}
-use Rattle.histories.specs.ListOn.{extent, is_plot, is_short, said_listed, check_limits, counted, list_on, list_length}
-use Rattle.histories.specs.declared.Listed.TheVariants.{Written, Refused}
+use Rattle.histories.specs.ListOn.{extent, is_plot, is_short, check_limits, counted, list_on, list_length}
 use Rattle.histories.specs.inner.Walk.{text_from, Exploring}
 use Rattle.histories.proofs.ExploreLaws.{text-whole}
 use Rattle.histories.proofs.PathLaws.{reached-none}
@@ -103,17 +103,17 @@ module _ (n k : ℕ) where
   -- ---- what is answered
 
   module _ (out : List ℕ) where
-    refused-by : (r : Refusal) → why_of r ≡ check_limits n k → outcome (said_listed (Refused r)) out ≡ list_on n k out
+    refused-by : (r : Refusal) → why_of r ≡ check_limits n k → outcome (said_as (extent 0 0) (Err r)) out ≡ list_on n k out
     unfolding list_on
     refused-by r e =
         let o = put_refused (list_text n (histories n k fresh)) out (check_limits n k) r e in
         let none : cond (eqb (why_of r).number 0) (length (histories n k fresh)) 0 ≡ 0 = rw (never-0 r) in
         ap (λ (c : ℕ). outcome (record { why = why_of r; value = extent 0 c }) out) (sym none) ∙ ap (counted (length (histories n k fresh))) o
 
-    pub sizes-done : is_plot n ≡ false → outcome (said_listed (Refused Sizes)) out ≡ list_on n k out
+    pub sizes-done : is_plot n ≡ false → outcome (said_as (extent 0 0) (Err Sizes)) out ≡ list_on n k out
     sizes-done e = refused-by Sizes (sym (sizes-limit e))
 
-    pub large-done : is_plot n ≡ true → is_short n k ≡ false → outcome (said_listed (Refused TooLarge)) out ≡ list_on n k out
+    pub large-done : is_plot n ≡ true → is_short n k ≡ false → outcome (said_as (extent 0 0) (Err TooLarge)) out ≡ list_on n k out
     large-done e i = refused-by TooLarge (sym (large-limit e i))
 
     module _ (e : is_plot n ≡ true) (i : is_short n k ≡ true) {size : ℕ}
@@ -121,13 +121,13 @@ module _ (n k : ℕ) where
       text : List ℕ
       text = list_text n (histories n k fresh)
 
-      pub no-room-done : length out < size → outcome (said_listed (Refused NoRoom)) out ≡ list_on n k out
+      pub no-room-done : length out < size → outcome (said_as (extent 0 0) (Err NoRoom)) out ≡ list_on n k out
       unfolding list_on text
       no-room-done h =
           ap (counted (length (histories n k fresh))) (no_room text out long h ∙ put-passed text out (check_limits n k) (ap (λ w. w.number) (within e i)))
 
       pub written-done : {count : ℕ} {o : List ℕ} → size ≤ length out → o ≡ poured out 0 (list_text n (histories n k fresh)) → count ≡ size / (4 + 6 * k)
-          → outcome (said_listed (Written size count)) o ≡ list_on n k out
+          → outcome (said_as (extent 0 0) (Ok (extent size count))) o ≡ list_on n k out
       unfolding list_on text
       written-done {count} {o} h b c =
           let d = c ∙ ap (λ (x : ℕ). x / (4 + 6 * k)) long ∙ count-is n k (short-size n k i).0 in

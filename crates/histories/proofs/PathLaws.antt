@@ -2,6 +2,9 @@
 -- Assumes 1 to 16 nodes.
 use Prim.Native.Nat.{ℕ, zero, suc, ◌-◌, ◌/◌, ◌%◌, ◌≤◌}
 use native.Mathlib.Omega.{arith}
+use mathlib.Core.Bool.{Bool}
+use Rattle.std.proofs.Common.{Ok, Err}
+use Rattle.std.specs.Result.{is_ok}
 use mathlib.Core.List.{List, [], ◌∷◌, ◌++◌}
 use mathlib.Core.Path.{◌≡◌, refl, sym, ap, ◌∙◌}
 use lib.Dec.{eqb}
@@ -9,7 +12,10 @@ use Rattle.basics.specs.Functions.{after_all}
 use Rattle.election.specs.StepOn.{step_on}
 use Rattle.refusal.specs.Outcome.{Outcome, outcome}
 use Rattle.election.proofs.RunLaws.{own-call}
-use Rattle.protocol.specs.Answer.{Said}
+use Rattle.protocol.specs.Answer.{Answer, Said, said, said_rule}
+use Rattle.protocol.specs.declared.Rule.{Rule}
+use Rattle.protocol.proofs.Said.{rule-said}
+use Rattle.refusal.proofs.RefusalLaws.{never-0}
 use Rattle.calls.specs.History.{State, started, advance, grown}
 use Rattle.protocol.specs.Network.{fresh}
 use Rattle.protocol.specs.Refusal.{answer, next}
@@ -19,12 +25,19 @@ use Rattle.tables.specs.Load.{tables_of}
 use Rattle.tables.specs.Tables.{Tables}
 use Rattle.histories.specs.inner.Walk.{event_at, path_events, reached_by}
 
-pub stepped : (n c : ℕ) (t : Tables) {e : Event} {u : Tables} {s : Said} {k : ℕ} → event_at c ≡ e → outcome s u ≡ step_on n e t → k ≡ s.why.number
-    → (eqb k 0 ≡ eqb (step_on n (event_at c) t).said.why.number 0) × (u ≡ (step_on n (event_at c) t).after)
-stepped n c t i q m = (
-  ap (λ (j : ℕ). eqb j 0) (m ∙ ap (λ (o : Outcome Said Tables). o.said.why.number) q ∙ ap (λ (f : Event). (step_on n f t).said.why.number) (sym i)),
-  ap (λ (o : Outcome Said Tables). o.after) q ∙ ap (λ (f : Event). (step_on n f t).after) (sym i),
-)
+-- what is carried out says 0, and no reason does
+rule-0 : (r : Rule) (set : ℕ) → (said_rule r set).why.number ≡ 0
+rule-0 r set = ap (λ (s : Said). s.why.number) (rule-said r set)
+
+pub ok-number : (a : Answer) → is_ok a ≡ eqb (said a).why.number 0
+ok-number (Ok d) = rw (rule-0 d.rule d.sent_to) refl
+ok-number (Err r) = sym (never-0 r)
+
+pub stepped : (n c : ℕ) (t : Tables) (a : Answer) {e : Event} {u : Tables} {b : Bool} → event_at c ≡ e → outcome (said a) u ≡ step_on n e t → b ≡ is_ok a
+    → (b ≡ eqb (step_on n (event_at c) t).said.why.number 0) × (u ≡ (step_on n (event_at c) t).after)
+stepped n c t a i q m =
+    let o = q ∙ ap (λ (f : Event). step_on n f t) (sym i) in
+    (m ∙ ok-number a ∙ ap (λ (o : Outcome Said Tables). eqb o.said.why.number 0) o, ap (λ (o : Outcome Said Tables). o.after) o)
 
 -- ---- paths
 

@@ -1,26 +1,15 @@
 -- What a list of all histories of a length answers and leaves: document 02, [6]. 1, then 19, then 14; a refused call leaves the bytes as they were.
 use Rattle.std.specs.Prelude.{ℕ, Bool, cond, ◌&&◌, List, eqb, leb, length}
+use Rattle.histories.specs.declared.Extent.{Extent}
 use Rattle.enumeration.specs.Histories.{histories}
 use Rattle.enumeration.specs.Texts.{list_text}
 use Rattle.protocol.specs.Network.{fresh}
-use Rattle.refusal.specs.Outcome.{Answered, Outcome, accepted, outcome, put_checked, refused_with}
-use Rattle.refusal.specs.Refusal.{why, why_of}
+use Rattle.refusal.specs.Outcome.{Answered, Outcome, outcome, put_checked}
+use Rattle.refusal.specs.Refusal.{why}
 use Rattle.refusal.specs.declared.Why.{Why}
-use Rattle.histories.specs.declared.Listed.{Listed}
-use Rattle.histories.specs.declared.Listed.TheVariants.{Written, Refused}
-
--- how many bytes the text has, and how many histories
-pub record Extent : Type 0 where
-  pub bytes : ℕ
-  pub histories : ℕ
 
 abbrev pub extent : ℕ → ℕ → Extent
 extent b c = record { bytes = b; histories = c }
-
--- 0 with both numbers; or 1, 19, 14
-abbrev pub said_listed : Listed → Answered Extent
-said_listed (Written b c) = accepted (extent b c)
-said_listed (Refused r) = refused_with (extent 0 0) (why_of r)
 
 abbrev pub is_plot : ℕ → Bool
 is_plot n = leb 1 n && leb n 16

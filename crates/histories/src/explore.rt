@@ -54,11 +54,9 @@ pub fn explore(
     if left == 0 {
         return super::put::put_input(out, at, path);
     }
-    let mut c: u32 = 0;
     let mut offset = at;
-    while c < 27 {
+    for c in 0..27 {
         offset = branch(path, left - 1, c, nodes, channels, out, offset);
-        c += 1;
     }
     offset
 }

@@ -3,8 +3,8 @@
 #![tactic(auto)]
 
 ghost use Rattle.std.specs.Prelude.{◌≡◌};
-ghost use Rattle.refusal.specs.Outcome.{outcome};
-ghost use Rattle.histories.specs.ListOn.{is_plot, is_short, said_listed, list_on, list_length};
+ghost use Rattle.refusal.specs.Outcome.{outcome, said_as};
+ghost use Rattle.histories.specs.ListOn.{is_plot, is_short, list_on, list_length, extent};
 
 use refusal::Refusal;
 
@@ -13,11 +13,11 @@ mod paths;
 mod plot;
 mod put;
 
-// What a list answers: the bytes of its text and its histories (0), or n outside 1 to 16 (1), above 3 nodes or 5 events (19), too little room (14).
+// How many bytes a list's text has, and how many histories.
 #[derive(Clone, Copy)]
-pub enum Listed {
-    Written(usize, u32),
-    Refused(Refusal),
+pub struct Extent {
+    pub bytes: usize,
+    pub histories: u32,
 }
 
 // A path: so many events from the fresh plot of n nodes on. Each is a candidate's code, 0 to 26; `code` is all of them as one number in base 27, whose last
@@ -41,22 +41,26 @@ fn is_short(n: u32, length: u32) -> bool
     (n <= 3) & (length <= 5)
 }
 
-// The list goes to the front of the bytes; it is made twice, first to see how long it is.
-pub fn list(n: u32, length: u32, out: &mut [u8]) -> Listed
-    ensures { outcome (said_listed result) out.new ≡ list_on n length out.old }
+// The list goes to the front of the bytes; it is made twice, first to see how long it is. n outside 1 to 16 (1), above 3 nodes or 5 events (19),
+// too little room (14).
+pub fn list(n: u32, length: u32, out: &mut [u8]) -> Result<Extent, Refusal>
+    ensures { outcome (said_as (extent 0 0) result) out.new ≡ list_on n length out.old }
 {
     if !is_plot(n) {
-        return Listed::Refused(Refusal::Sizes);
+        return Err(Refusal::Sizes);
     }
     if !is_short(n, length) {
-        return Listed::Refused(Refusal::TooLarge);
+        return Err(Refusal::TooLarge);
     }
     let size = plot::size(n, length);
     if out.len() < size {
-        return Listed::Refused(Refusal::NoRoom);
+        return Err(Refusal::NoRoom);
     }
     plot::plot(n, length, out);
-    Listed::Written(size, plot::count(size, length))
+    Ok(Extent {
+        bytes: size,
+        histories: plot::count(size, length),
+    })
 }
 
 // The bytes that a list takes, to be lent for it; 0 where it is refused with 1 or 19.

@@ -16,15 +16,12 @@ pub fn step(n: u32, c: u32, nodes: &mut [u32], channels: &mut [u32]) -> bool
     let u = c / 3 % 3 + 1;
     let v = c % 3 + 1;
     if c < 9 {
-        let answer = election::up(n, u, v, nodes, channels);
-        return answers::number(answer) == 0;
+        return election::up(n, u, v, nodes, channels).is_ok();
     }
     if c < 18 {
-        let answer = election::down(n, u, v, nodes, channels);
-        return answers::number(answer) == 0;
+        return election::down(n, u, v, nodes, channels).is_ok();
     }
-    let answer = election::receive(n, u, v, nodes, channels);
-    answers::number(answer) == 0
+    election::receive(n, u, v, nodes, channels).is_ok()
 }
 
 // The events of a path, from fresh tables on.
@@ -33,7 +30,7 @@ pub fn replay(path: Path, nodes: &mut [u32], channels: &mut [u32])
     ensures { tables nodes.new channels.new ≡ tables_of path.n (reached_by path.n path.events path.code) }
 {
     if path.events == 0 {
-        lent::fresh(path.n, nodes, channels);
+        let _ = lent::fresh(path.n, nodes, channels);
     } else {
         let front = Path {
             n: path.n,

@@ -3,7 +3,7 @@ ghost use Rattle.std.specs.Prelude.{◌≡◌, ◌+◌, ◌*◌, ◌/◌, ◌^�
 ghost use Rattle.enumeration.specs.Histories.{histories};
 ghost use Rattle.enumeration.specs.Texts.{list_text};
 ghost use Rattle.protocol.specs.Network.{fresh};
-ghost use Rattle.tables.specs.Tables.{tables, width, cell_width};
+ghost use Rattle.tables.specs.Tables.{tables};
 ghost use Rattle.tables.specs.inner.Fit.{Sized};
 ghost use Rattle.text.specs.inner.Poured.{poured};
 
@@ -14,23 +14,11 @@ const NODES: usize = 3 * (tables::ROW_HEAD + tables::HEIGHT_SIZE * 3);
 
 const CHANNELS: usize = 3 * 3 * tables::CELL_WIDTH;
 
-fn blank_nodes() -> [u32; NODES]
-    ensures { length result ≡ 3 * width 3 }
-{
-    [0; NODES]
-}
-
-fn blank_channels() -> [u32; CHANNELS]
-    ensures { length result ≡ 3 * 3 * cell_width }
-{
-    [0; CHANNELS]
-}
-
 fn with_tables(n: u32, k: u32, nodes: &mut [u32], channels: &mut [u32], out: &mut [u8]) -> usize
     requires { Sized n (tables nodes.old channels.old) × (n ≤ 3) × (k ≤ 5) }
     ensures { (out.new ≡ poured out.old 0 (list_text n (histories n k fresh))) × (result ≡ length (list_text n (histories n k fresh))) }
 {
-    lent::fresh(n, nodes, channels);
+    let _ = lent::fresh(n, nodes, channels);
     let start = Path {
         n: n,
         events: 0,
@@ -44,8 +32,8 @@ pub fn plot(n: u32, k: u32, out: &mut [u8]) -> usize
     requires { (1 ≤ n) × (n ≤ 3) × (k ≤ 5) }
     ensures { (out.new ≡ poured out.old 0 (list_text n (histories n k fresh))) × (result ≡ length (list_text n (histories n k fresh))) }
 {
-    let mut nodes = blank_nodes();
-    let mut channels = blank_channels();
+    let mut nodes = [0u32; NODES];
+    let mut channels = [0u32; CHANNELS];
     let m = n as usize;
     let a = m * (tables::ROW_HEAD + tables::HEIGHT_SIZE * m);
     let b = m * m * tables::CELL_WIDTH;

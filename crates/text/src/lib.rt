@@ -23,10 +23,8 @@ pub fn put_bytes(out: &mut [u8], at: usize, bytes: &[u8]) -> usize
     ensures { (out.new ≡ poured out.old at bytes.now) × (result ≡ at + length bytes.now) }
 {
     let mut offset = at;
-    let mut k: usize = 0;
-    while k < bytes.len() {
-        offset = put_byte(out, offset, bytes[k]);
-        k += 1;
+    for b in bytes {
+        offset = put_byte(out, offset, *b);
     }
     offset
 }

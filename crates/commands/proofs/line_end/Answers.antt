@@ -1,15 +1,15 @@
-use Rattle.commands.proofs.Seeking.{newlines, next, found, ended}
+-- `commands::line_end` meets its contract: `position` finds the first newline from the offset on.
+use Rattle.std.proofs.Common.{rules, tests, arith, drop, length-drop}
+use Rattle.std.proofs.lemmas.Iterator.{YieldsList-from_slice}
+use Rattle.std.proofs.lemmas.Iterator.Search.{position_from_yields_List}
+use Rattle.std.proofs.lemmas.List.{take_rest}
+use Rattle.commands.proofs.Seeking.{is_byte, newlines, found}
 use Rattle.commands.proofs.line_end.Goals as goal
-
-pub returns-then-input-k-eq10 : goal.returns-then-input-k-eq10
-returns-then-input-k-eq10 c =
-    let i = c.loop-k.invariant in
-    (found newlines i c.loop-k-test.true c.if-input-k-eq10.true, i.low, i.high)
-
-pub loop-k-preserved : goal.loop-k-preserved
-loop-k-preserved c = next newlines c.loop-k.invariant c.loop-k-test.true c.if-input-k-eq10.false
 
 pub returns : goal.returns
 returns c =
-    let i = c.loop-k.invariant in
-    (ended newlines i c.loop-k-test.false, i.low, i.high)
+    let l = c.args.input.now in
+    let rest = take_rest l c.args.at in
+    let at = position_from_yields_List (is_byte 10) _ _ c.position.result c.position.ensures.ran (YieldsList-from_slice _ c.iter.ensures.rest) (λ x b q k. search (rules, tests)) in
+    let p = found 10 (drop c.args.at l) _ (newlines (drop c.args.at l)) _ (rw rest at at) _ (rw rest at c.unwrap_or.ensures) in
+    (omega arith, omega arith, omega (arith, length-drop c.args.at l))

@@ -2,5 +2,5 @@
 use Rattle.commands.proofs.NumberLaws.{number-other}
 use Rattle.commands.proofs.number.Goals as goal
 
-pub returns : goal.returns
-returns c = number-other c.args.bytes.now c.if-bytes-eq1.false c.if-bytes-eq2.false
+pub returns-clause-says : goal.returns-clause-says
+returns-clause-says c = number-other c.args.bytes.now c.if-bytes-eq1.false c.if-bytes-eq2.false

@@ -2,8 +2,8 @@
 use Rattle.commands.proofs.NumberLaws.{one-is, one_none}
 use Rattle.commands.proofs.one_digit.Goals as goal
 
-pub returns-then-is_digit : goal.returns-then-is_digit
-returns-then-is_digit c = one-is _ _ c.is_digit.ensures c.if-is_digit.true
+pub returns-then-is_digit-clause-says : goal.returns-then-is_digit-clause-says
+returns-then-is_digit-clause-says c = one-is _ _ c.is_digit.ensures c.if-is_digit.true
 
-pub returns : goal.returns
-returns c = one_none _ _ c.is_digit.ensures c.if-is_digit.false
+pub returns-clause-says : goal.returns-clause-says
+returns-clause-says c = one_none _ _ c.is_digit.ensures c.if-is_digit.false

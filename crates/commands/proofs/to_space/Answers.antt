@@ -1,17 +1,11 @@
-use native.Mathlib.Nat.{zero-add}
-use mathlib.Core.Path.{◌∙◌}
-use Rattle.commands.proofs.Seeking.{spaces, next, found, ended}
+-- `commands::to_space` meets its contract: `position` finds the first space.
+use Rattle.std.proofs.Common.{rules, tests}
+use Rattle.std.proofs.lemmas.Iterator.{YieldsList-from_slice}
+use Rattle.std.proofs.lemmas.Iterator.Search.{position_from_yields_List}
+use Rattle.commands.proofs.Seeking.{is_byte, spaces, found}
 use Rattle.commands.proofs.to_space.Goals as goal
-
-pub returns-then-bytes-k-eq32 : goal.returns-then-bytes-k-eq32
-returns-then-bytes-k-eq32 c =
-    let i = c.loop-k.invariant in
-    (found spaces i c.loop-k-test.true c.if-bytes-k-eq32.true ∙ zero-add _, i.high)
-
-pub loop-k-preserved : goal.loop-k-preserved
-loop-k-preserved c = next spaces c.loop-k.invariant c.loop-k-test.true c.if-bytes-k-eq32.false
 
 pub returns : goal.returns
 returns c =
-    let i = c.loop-k.invariant in
-    (ended spaces i c.loop-k-test.false ∙ zero-add _, i.high)
+    let at = position_from_yields_List (is_byte 32) _ _ c.position.result c.position.ensures.ran (YieldsList-from_slice c.args.bytes.now cc) (λ x b q k. search (rules, tests)) in
+    found 32 c.args.bytes.now _ (spaces c.args.bytes.now) _ at _ c.unwrap_or.ensures

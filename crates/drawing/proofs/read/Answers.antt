@@ -4,47 +4,26 @@ use Rattle.lent.proofs.CheckLaws.{sized-is}
 use Rattle.drawing.proofs.ReadLaws.{few, read_none, read-sizes, read-links, read-plot}
 use Rattle.drawing.proofs.read.Goals as goal
 
-pub returns-then-form-eq0 : goal.returns-then-form-eq0
-returns-then-form-eq0 c = read_none _ _ _ c.form-form.ensures.0 c.if-form-eq0.true
+pub returns-in_default : goal.returns-in_default
+returns-in_default c = read_none _ _ c.in_default.ensures.none
 
 pub returns-then-not-is_sized : goal.returns-then-not-is_sized
 returns-then-not-is_sized c =
-    let if1 = c.if-form-eq0 in
-    let form = c.form-form in
-    read-sizes _ _ _ form.ensures.0 if1.false _ c.is_sized.ensures c.if-not-is_sized.true
+    let f = c.in-Some.ensures.some in read-sizes _ _ _ f.0 f.1 _ c.is_sized.ensures c.if-not-is_sized.true
 
 pub hold-requires : goal.hold-requires
 hold-requires c =
-    let if1 = c.if-form-eq0 in
-    let form = c.form-form in (
-      few c.args.text.now _ form.ensures.0 if1.false,
-      form.ensures.1 if1.false,
-    )
+    let f = c.in-Some.ensures.some in (few c.args.text.now _ f.0 f.1, f.2)
 
 pub returns-then-not-hold : goal.returns-then-not-hold
 returns-then-not-hold c =
-    let is-sized = c.is_sized in
-    let if1 = c.if-form-eq0 in
-    let form = c.form-form in
-    read-links _ _ _ form.ensures.0 if1.false _ is-sized.ensures c.if-not-is_sized.false _ c.hold.ensures
-    c.if-not-hold.true
+    let f = c.in-Some.ensures.some in
+    read-links _ _ _ f.0 f.1 _ c.is_sized.ensures c.if-not-is_sized.false _ c.hold.ensures c.if-not-hold.true
 
 pub build-requires : goal.build-requires
-build-requires c =
-    let if2 = c.if-not-is_sized in
-    let is-sized = c.is_sized in
-    let if1 = c.if-form-eq0 in
-    let form = c.form-form in
-    (sized-is _ _ (sym is-sized.ensures ∙ if2.false), form.ensures.1 if1.false)
+build-requires c = (sized-is _ _ (sym c.is_sized.ensures ∙ c.if-not-is_sized.false), c.in-Some.ensures.some.2)
 
 pub returns : goal.returns
 returns c =
-    let build = c.build in
-    let if3 = c.if-not-hold in
-    let hold = c.hold in
-    let if2 = c.if-not-is_sized in
-    let is-sized = c.is_sized in
-    let if1 = c.if-form-eq0 in
-    let form = c.form-form in
-    read-plot _ _ _ form.ensures.0 if1.false _ is-sized.ensures if2.false _ hold.ensures if3.false _
-    build.ensures
+    let f = c.in-Some.ensures.some in
+    read-plot _ _ _ f.0 f.1 _ c.is_sized.ensures c.if-not-is_sized.false _ c.hold.ensures c.if-not-hold.false _ c.build.ensures

@@ -14,20 +14,14 @@ loop-u-init c = printed-none _ _ _ _
 pub station-offset-requires : goal.station-offset-requires
 station-offset-requires c =
     let l = c.loop-u in
-    let node : Node c.args.n l.u = record { low = l.invariant.low; high = c.loop-u-test.true } in
+    let node : Node c.args.n l.u = record { low = l.invariant.low; high = omega (arith, c.loop-u-test.true) } in
     (c.requires.0, node, c.requires.1, omega (arith, printed-near l.invariant 33 (line-le c.args.n c.args.nodes.now), c.loop-u-test.true, c.requires.0, c.requires.2))
-
-pub overflow_add-u : goal.overflow_add-u
-overflow_add-u c = omega arith
-
-pub loop-u-smaller : goal.loop-u-smaller
-loop-u-smaller c = omega arith
 
 pub loop-u-preserved : goal.loop-u-preserved
 loop-u-preserved c =
     let l = c.loop-u in
     let e = c.station-offset.ensures in
-    printed-next _ _ _ _ _ _ _ _ l.u l.invariant c.loop-u-test.true (both e.0 e.1)
+    printed-next _ _ _ _ _ _ _ _ l.u l.invariant (omega (arith, c.loop-u-test.true)) (both e.0 e.1)
 
 pub shape_of-out : goal.shape_of-out
 shape_of-out c = ap length c.loop-u.invariant.so_far.bytes ∙ length-poured _ _ _

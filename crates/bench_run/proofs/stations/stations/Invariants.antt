@@ -1,5 +1,4 @@
 -- `bench_run::stations::stations` meets its contract: the lines of the nodes so far have been poured.
-use Prim.Native.Nat.{suc, ◌-◌}
 use mathlib.Core.List.{[]}
 use Rattle.tables.specs.Tables.{tables}
 use Rattle.bench_run.specs.inner.OnTables.{station_line_on}
@@ -8,6 +7,3 @@ use Rattle.bench_run.proofs.stations.stations.Given as goal
 
 abbrev pub invariant-loop-u : goal.invariant-loop-u
 invariant-loop-u l = Printed l.n (station_line_on l.n (tables l.nodes [])) l.initial.out l.at l.out l.offset l.u
-
-abbrev pub decreases-loop-u : goal.decreases-loop-u
-decreases-loop-u l = suc l.n - l.u

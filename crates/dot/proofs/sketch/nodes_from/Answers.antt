@@ -15,25 +15,19 @@ pub returns-then-size-eq0 : goal.returns-then-size-eq0
 returns-then-size-eq0 c =
     let loop-test = c.loop-k-test in
     let loop = c.loop-k in
-    nodes-ended _ _ _ _ loop.invariant loop-test.true _ c.node_line_at-size.ensures c.if-size-eq0.true
+    nodes-ended _ _ _ _ loop.invariant (omega (arith, loop-test.true)) _ c.node_line_at-size.ensures c.if-size-eq0.true
 
 pub overflow_add-end : goal.overflow_add-end
 overflow_add-end c =
     let loop-test = c.loop-k-test in
     let loop = c.loop-k in
-    omega (arith, node-inside _ _ _ _ loop.invariant loop-test.true _ c.node_line_at-size.ensures)
-
-pub overflow_add-k : goal.overflow_add-k
-overflow_add-k c = omega (arith, c.loop-k-test.true)
-
-pub loop-k-smaller : goal.loop-k-smaller
-loop-k-smaller c = omega (arith, c.loop-k-test.true)
+    omega (arith, node-inside _ _ _ _ loop.invariant (omega (arith, loop-test.true)) _ c.node_line_at-size.ensures)
 
 pub loop-k-preserved : goal.loop-k-preserved
 loop-k-preserved c =
     let loop-test = c.loop-k-test in
     let loop = c.loop-k in
-    nodes-next _ _ _ _ loop.invariant loop-test.true _ c.node_line_at-size.ensures c.if-size-eq0.false
+    nodes-next _ _ _ _ loop.invariant (omega (arith, loop-test.true)) _ c.node_line_at-size.ensures c.if-size-eq0.false
 
 pub returns : goal.returns
-returns c = nodes-full _ _ _ _ c.loop-k.invariant c.loop-k-test.false
+returns c = nodes-full _ _ _ _ c.loop-k.invariant (omega (arith, c.loop-k-test.false))

@@ -9,4 +9,4 @@ returns-then-text-end c =
 
 pub returns : goal.returns
 returns c =
-    c.number.ensures ∙ number_is c.args.text.now c.args.at _ c.digits_at.ensures.0 _ refl
+    c.unwrap_or.ensures ∙ c.number.ensures.says ∙ number_is c.args.text.now c.args.at _ c.digits_at.ensures.0 _ refl

@@ -7,33 +7,27 @@ use Rattle.text.proofs.TextLaws.{length-poured}
 use Rattle.drawing.proofs.Pours.{row-le, all-arrows}
 use Rattle.drawing.proofs.writing.put_arrows.Goals as goal
 
+pub overflow_add-a-end : goal.overflow_add-a-end
+overflow_add-a-end c = omega (arith, (sound-sized _ _ c.args.plot.passed).few)
+
 pub loop-a-init : goal.loop-a-init
 loop-a-init c = printed-none _ _ _ _
 
 pub put_arrows_from-offset-requires : goal.put_arrows_from-offset-requires
 put_arrows_from-offset-requires c =
     let l = c.loop-a in
-    let few = (sound-sized _ _ c.requires.0).few in (
-      c.requires.0,
-      record { low = l.invariant.low; high = c.loop-a-test.true },
+    let few = (sound-sized _ _ c.args.plot.passed).few in (
+      record { low = l.invariant.low; high = omega (arith, c.loop-a-test.true) },
       omega
-          (arith, printed-near l.invariant 448 (row-le _ _ few), c.loop-a-test.true, few, c.requires.1),
+          (arith, printed-near l.invariant 448 (row-le _ _ few), c.loop-a-test.true, few, c.requires),
     )
-
-pub overflow_add-a : goal.overflow_add-a
-overflow_add-a c =
-    let loop-test = c.loop-a-test in
-    let few = (sound-sized _ _ c.requires.0).few in omega (arith, loop-test.true, few)
-
-pub loop-a-smaller : goal.loop-a-smaller
-loop-a-smaller c = omega (arith, c.loop-a-test.true)
 
 pub loop-a-preserved : goal.loop-a-preserved
 loop-a-preserved c =
     let put-arrows-from = c.put_arrows_from-offset in
     let loop-test = c.loop-a-test in
     let l = c.loop-a in
-    printed-next _ _ _ _ _ _ _ _ l.a l.invariant loop-test.true (both put-arrows-from.ensures.0 put-arrows-from.ensures.1)
+    printed-next _ _ _ _ _ _ _ _ l.a l.invariant (omega (arith, loop-test.true)) (both put-arrows-from.ensures.0 put-arrows-from.ensures.1)
 
 pub shape_of-out : goal.shape_of-out
 shape_of-out c = ap length c.loop-a.invariant.so_far.bytes ∙ length-poured _ _ _

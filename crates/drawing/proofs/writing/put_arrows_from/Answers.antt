@@ -7,34 +7,28 @@ use Rattle.text.proofs.TextLaws.{length-poured}
 use Rattle.drawing.proofs.Pours.{arrow-le}
 use Rattle.drawing.proofs.writing.put_arrows_from.Goals as goal
 
+pub overflow_add-b-end : goal.overflow_add-b-end
+overflow_add-b-end c = omega (arith, (sound-sized _ _ c.args.plot.passed).few)
+
 pub loop-b-init : goal.loop-b-init
 loop-b-init c = printed-none _ _ _ _
 
 pub put_arrow-offset-requires : goal.put_arrow-offset-requires
 put_arrow-offset-requires c =
     let l = c.loop-b in
-    let few = (sound-sized _ _ c.requires.0).few in (
+    let few = (sound-sized _ _ c.args.plot.passed).few in (
       c.requires.0,
-      c.requires.1,
-      record { low = l.invariant.low; high = c.loop-b-test.true },
+      record { low = l.invariant.low; high = omega (arith, c.loop-b-test.true) },
       omega
-          (arith, printed-near l.invariant 28 (arrow-le _ _), c.loop-b-test.true, few, c.requires.2),
+          (arith, printed-near l.invariant 28 (arrow-le _ _), c.loop-b-test.true, few, c.requires.1),
     )
-
-pub overflow_add-b : goal.overflow_add-b
-overflow_add-b c =
-    let loop-test = c.loop-b-test in
-    let few = (sound-sized _ _ c.requires.0).few in omega (arith, loop-test.true, few)
-
-pub loop-b-smaller : goal.loop-b-smaller
-loop-b-smaller c = omega (arith, c.loop-b-test.true)
 
 pub loop-b-preserved : goal.loop-b-preserved
 loop-b-preserved c =
     let put-arrow = c.put_arrow-offset in
     let loop-test = c.loop-b-test in
     let l = c.loop-b in
-    printed-next _ _ _ _ _ _ _ _ l.b l.invariant loop-test.true (both put-arrow.ensures.0 put-arrow.ensures.1)
+    printed-next _ _ _ _ _ _ _ _ l.b l.invariant (omega (arith, loop-test.true)) (both put-arrow.ensures.0 put-arrow.ensures.1)
 
 pub shape_of-out : goal.shape_of-out
 shape_of-out c = ap length c.loop-b.invariant.so_far.bytes ∙ length-poured _ _ _

@@ -13,18 +13,12 @@ pub put_node-offset-requires : goal.put_node-offset-requires
 put_node-offset-requires c =
     omega (arith, printed-near c.loop-k.invariant 14 node-le, c.loop-k-test.true, c.requires.0, c.requires.1)
 
-pub overflow_add-k : goal.overflow_add-k
-overflow_add-k c = omega (arith, c.loop-k-test.true, c.requires.0)
-
-pub loop-k-smaller : goal.loop-k-smaller
-loop-k-smaller c = omega (arith, c.loop-k-test.true)
-
 pub loop-k-preserved : goal.loop-k-preserved
 loop-k-preserved c =
     let put-node = c.put_node-offset in
     let loop-test = c.loop-k-test in
     let l = c.loop-k in
-    printed-next _ _ _ _ _ _ _ _ l.k l.invariant loop-test.true (both put-node.ensures.0 put-node.ensures.1)
+    printed-next _ _ _ _ _ _ _ _ l.k l.invariant (omega (arith, loop-test.true)) (both put-node.ensures.0 put-node.ensures.1)
 
 pub shape_of-out : goal.shape_of-out
 shape_of-out c = ap length c.loop-k.invariant.so_far.bytes ∙ length-poured _ _ _

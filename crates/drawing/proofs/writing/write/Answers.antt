@@ -12,23 +12,23 @@ use Rattle.drawing.proofs.writing.write.Goals as goal
 pub put_nodes-b-requires : goal.put_nodes-b-requires
 put_nodes-b-requires c =
     let put-digraph-head = c.put_digraph_head-a in
-    let few = (sound-sized _ _ c.requires).few in
+    let few = (sound-sized _ _ c.args.plot.passed).few in
     (omega (arith, few), omega (arith, put-digraph-head.ensures.1))
 
 pub put_arrows-c-requires : goal.put_arrows-c-requires
 put_arrows-c-requires c =
     let put-nodes = c.put_nodes-b in
     let put-digraph-head = c.put_digraph_head-a in
-    let few = (sound-sized _ _ c.requires).few in (c.requires, omega (arith, put-digraph-head.ensures.1, put-nodes.ensures.1, nodes-le c.args.n few))
+    let few = (sound-sized _ _ c.args.plot.passed).few in omega (arith, put-digraph-head.ensures.1, put-nodes.ensures.1, nodes-le c.args.plot.n few)
 
 pub put_foot-requires : goal.put_foot-requires
 put_foot-requires c =
     let put-arrows = c.put_arrows-c in
     let put-nodes = c.put_nodes-b in
     let put-digraph-head = c.put_digraph_head-a in
-    let few = (sound-sized _ _ c.requires).few in
-    let short = arrows-le c.args.n (load c.args.n (tables c.args.nodes.now c.args.channels.now)) few in
-    omega (arith, put-digraph-head.ensures.1, put-nodes.ensures.1, put-arrows.ensures.1, nodes-le c.args.n few, short)
+    let few = (sound-sized _ _ c.args.plot.passed).few in
+    let short = arrows-le c.args.plot.n (load c.args.plot.n (tables c.args.plot.nodes.now c.args.plot.channels.now)) few in
+    omega (arith, put-digraph-head.ensures.1, put-nodes.ensures.1, put-arrows.ensures.1, nodes-le c.args.plot.n few, short)
 
 pub returns : goal.returns
 returns c =

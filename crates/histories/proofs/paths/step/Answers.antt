@@ -6,15 +6,15 @@ use Rattle.histories.proofs.paths.step.Goals as goal
 
 pub returns-then-c-lt9 : goal.returns-then-c-lt9
 returns-then-c-lt9 c =
-    stepped c.args.n c.args.c (tables c.args.nodes.now c.args.channels.now)
-    (event-up c.args.c c.if-c-lt9.true) c.up-answer.ensures c.number.ensures
+    stepped c.args.n c.args.c (tables c.args.nodes.now c.args.channels.now) _
+    (event-up c.args.c c.if-c-lt9.true) c.up.ensures c.is_ok.ensures.value
 
 pub returns-then-c-lt18 : goal.returns-then-c-lt18
 returns-then-c-lt18 c =
-    stepped c.args.n c.args.c (tables c.args.nodes.now c.args.channels.now)
-    (event-down c.args.c c.if-c-lt9.false c.if-c-lt18.true) c.down-answer.ensures c.number-then-c-lt18.ensures
+    stepped c.args.n c.args.c (tables c.args.nodes.now c.args.channels.now) _
+    (event-down c.args.c c.if-c-lt9.false c.if-c-lt18.true) c.down.ensures c.is_ok-then-c-lt18.ensures.value
 
 pub returns : goal.returns
 returns c =
-    stepped c.args.n c.args.c (tables c.args.nodes.now c.args.channels.now)
-    (event-receive c.args.c c.if-c-lt9.false c.if-c-lt18.false) c.receive-answer.ensures c.number-2.ensures
+    stepped c.args.n c.args.c (tables c.args.nodes.now c.args.channels.now) _
+    (event-receive c.args.c c.if-c-lt9.false c.if-c-lt18.false) c.receive.ensures c.is_ok-2.ensures.value
