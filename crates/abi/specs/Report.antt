@@ -5,7 +5,8 @@ use Rattle.groups.specs.declared.Group.{Group}
 use Rattle.height.specs.Comparison.{Comparison, sign_at}
 use Rattle.height.specs.Words.{leader_pair_of}
 use Rattle.height.specs.declared.Height.{Height}
-use Rattle.histories.specs.ListOn.{Extent, extent}
+use Rattle.histories.specs.ListOn.{extent}
+use Rattle.histories.specs.declared.Extent.{Extent}
 use Rattle.image_reader.specs.declared.NodeRecord.{NodeRecord}
 use Rattle.protocol.specs.Answer.{Said}
 use Rattle.refusal.specs.Outcome.{Answered}

@@ -26,6 +26,8 @@ ghost use Rattle.abi.specs.Report.{said_report, said_check_report, said_save_rep
 ghost use Rattle.abi.specs.Sizes.{is_size, nodes_length, channels_length, row_length, image_length};
 ghost use Rattle.tables.specs.Tables.{tables};
 
+use height::Height;
+
 mod reports;
 
 // What an event answers: election_answer.
@@ -210,7 +212,7 @@ pub extern "C" fn election_histories_len(n: u32, length: u32) -> usize
 pub extern "C" fn election_fresh(n: u32, nodes: &mut [u32], channels: &mut [u32]) -> CheckReport
     ensures { outcome (said_check_report result) (tables nodes.new channels.new) ≡ fresh_on n (tables nodes.old channels.old) }
 {
-    reports::of_check(lent::fresh(n, nodes, channels))
+    CheckReport::from(lent::fresh(n, nodes, channels))
 }
 
 // Refusals 1, 2 and 18.
@@ -218,7 +220,7 @@ pub extern "C" fn election_fresh(n: u32, nodes: &mut [u32], channels: &mut [u32]
 pub extern "C" fn election_check(n: u32, nodes: &[u32], channels: &[u32]) -> CheckReport
     ensures { said_check_report result ≡ check_on n (tables nodes.now channels.now) }
 {
-    reports::of_check(lent::check(n, nodes, channels))
+    CheckReport::from(lent::check(n, nodes, channels))
 }
 
 // ---- events
@@ -235,7 +237,7 @@ pub extern "C" fn election_up(
     ensures channels_value { outcome (said_report result) (tables nodes.new channels.new) ≡ step_on n (up u v) (tables nodes.old channels.old) }
     ensures sent_value { result.sent ≡ ones result.sent_to }
 {
-    reports::of_answer(election::up(n, u, v, nodes, channels))
+    AnswerReport::from(election::up(n, u, v, nodes, channels))
 }
 
 // Channel u to v goes down, at u.
@@ -250,7 +252,7 @@ pub extern "C" fn election_down(
     ensures channels_value { outcome (said_report result) (tables nodes.new channels.new) ≡ step_on n (down u v) (tables nodes.old channels.old) }
     ensures sent_value { result.sent ≡ ones result.sent_to }
 {
-    reports::of_answer(election::down(n, u, v, nodes, channels))
+    AnswerReport::from(election::down(n, u, v, nodes, channels))
 }
 
 // The first message of channel `from` to `to` is received, at `to`.
@@ -265,7 +267,7 @@ pub extern "C" fn election_receive(
     ensures channels_value { outcome (said_report result) (tables nodes.new channels.new) ≡ step_on n (receive from to) (tables nodes.old channels.old) }
     ensures sent_value { result.sent ≡ ones result.sent_to }
 {
-    reports::of_answer(election::receive(n, from, to, nodes, channels))
+    AnswerReport::from(election::receive(n, from, to, nodes, channels))
 }
 
 // ---- looks at a whole network
@@ -275,7 +277,7 @@ pub extern "C" fn election_receive(
 pub extern "C" fn election_quiet(n: u32, nodes: &[u32], channels: &[u32]) -> ValueReport
     ensures { said_value_report result ≡ quiet_on n (tables nodes.now channels.now) }
 {
-    reports::of_quiet(groups::is_quiet(n, nodes, channels))
+    ValueReport::from(groups::is_quiet(n, nodes, channels))
 }
 
 // The lowest members of all groups, as a set.
@@ -283,7 +285,7 @@ pub extern "C" fn election_quiet(n: u32, nodes: &[u32], channels: &[u32]) -> Val
 pub extern "C" fn election_groups(n: u32, nodes: &[u32], channels: &[u32]) -> ValueReport
     ensures { said_value_report result ≡ heads_on n (tables nodes.now channels.now) }
 {
-    reports::of_heads(groups::heads(n, nodes, channels))
+    ValueReport::from(groups::heads(n, nodes, channels))
 }
 
 // The group of node u and its collectors.
@@ -292,7 +294,7 @@ pub extern "C" fn election_group_of(n: u32, u: u32, nodes: &[u32], channels: &[u
     ensures result_value { said_group_report result ≡ group_on n u (tables nodes.now channels.now) }
     ensures collector_value { result.collector ≡ the_one result.collectors }
 {
-    reports::of_group(groups::group_of(n, u, nodes, channels))
+    GroupReport::from(groups::group_of(n, u, nodes, channels))
 }
 
 // ---- images
@@ -302,7 +304,7 @@ pub extern "C" fn election_group_of(n: u32, u: u32, nodes: &[u32], channels: &[u
 pub extern "C" fn election_image_stations(image: &[u8]) -> ValueReport
     ensures { said_value_report result ≡ count_on image.now }
 {
-    reports::of_count(image_snapshot::count(image))
+    ValueReport::from(image_snapshot::count(image))
 }
 
 // The image of the network goes to the front of `out`.
@@ -315,7 +317,7 @@ pub extern "C" fn election_save(
 ) -> SaveReport
     ensures { outcome (said_save_report result) out.new ≡ save_on n (tables nodes.now channels.now) out.old }
 {
-    reports::of_save(image_snapshot::save(n, nodes, channels, out))
+    SaveReport::from(image_snapshot::save(n, nodes, channels, out))
 }
 
 // The network of an image goes into the tables.
@@ -327,7 +329,7 @@ pub extern "C" fn election_restore(
 ) -> CheckReport
     ensures { outcome (said_check_report result) (tables nodes.new channels.new) ≡ restore_on image.now (tables nodes.old channels.old) }
 {
-    reports::of_check(image_snapshot::restore(image, nodes, channels))
+    CheckReport::from(image_snapshot::restore(image, nodes, channels))
 }
 
 // Node k of an image, where its record is said to start: the heights go into `row`.
@@ -340,7 +342,7 @@ pub extern "C" fn election_read_node(
 ) -> NodeReport
     ensures { outcome (said_node_report result) row.new ≡ read_node_on image.now k place row.old }
 {
-    reports::of_node(image_snapshot::read_node(image, k, place, row))
+    NodeReport::from(image_snapshot::read_node(image, k, place, row))
 }
 
 // ---- drawings
@@ -355,7 +357,7 @@ pub extern "C" fn election_draw(
 ) -> SaveReport
     ensures { outcome (said_save_report result) out.new ≡ draw_on n (tables nodes.now channels.now) out.old }
 {
-    reports::of_drawn(drawing::draw(n, nodes, channels, out))
+    SaveReport::from(drawing::draw(n, nodes, channels, out))
 }
 
 // How many nodes a sketch has; 0 where the text is none.
@@ -375,7 +377,7 @@ pub extern "C" fn election_read_sketch(
 ) -> CheckReport
     ensures { outcome (said_check_report result) (tables nodes.new channels.new) ≡ read_on text.now (tables nodes.old channels.old) }
 {
-    reports::of_check(drawing::read(text, nodes, channels))
+    CheckReport::from(drawing::read(text, nodes, channels))
 }
 
 // ---- histories
@@ -385,7 +387,7 @@ pub extern "C" fn election_read_sketch(
 pub extern "C" fn election_histories(n: u32, length: u32, out: &mut [u8]) -> ListReport
     ensures { outcome (said_list_report result) out.new ≡ list_on n length out.old }
 {
-    reports::of_list(histories::list(n, length, out))
+    ListReport::from(histories::list(n, length, out))
 }
 
 // ---- heights
@@ -395,5 +397,5 @@ pub extern "C" fn election_histories(n: u32, length: u32, out: &mut [u8]) -> Lis
 pub extern "C" fn election_compare(a: GivenHeight, b: GivenHeight) -> ComparisonReport
     ensures { said_comparison_report result ≡ comparison (height_given a) (height_given b) }
 {
-    reports::of_order(height::order::of_heights(reports::given(a), reports::given(b)))
+    ComparisonReport::from(height::order::of_heights(Height::from(a), Height::from(b)))
 }

@@ -1,18 +1,15 @@
 // Answers as plain structs, by value.
 // Each contract: what the struct says is what the answer says.
 ghost use Rattle.std.specs.Prelude.{◌≡◌};
+ghost use Rattle.refusal.specs.Outcome.{said_as};
 ghost use Rattle.std.specs.Int.Count.{ones};
-ghost use Rattle.drawing.specs.Draw.{said_drawn};
 ghost use Rattle.height.specs.Comparison.{said_order};
 ghost use Rattle.height.specs.Height.{zero_level};
-ghost use Rattle.histories.specs.ListOn.{extent, said_listed};
-ghost use Rattle.image_reader.specs.Record.{said_node, no_node};
-ghost use Rattle.groups.specs.Group.{said_group, no_group};
+ghost use Rattle.histories.specs.ListOn.{extent};
+ghost use Rattle.image_reader.specs.Record.{no_node};
+ghost use Rattle.groups.specs.Group.{no_group};
 ghost use Rattle.groups.specs.Groups.{the_one};
-ghost use Rattle.groups.specs.Heads.{said_heads};
 ghost use Rattle.groups.specs.Quiet.{said_quiet};
-ghost use Rattle.image_snapshot.specs.Count.{said_count};
-ghost use Rattle.image_snapshot.specs.Save.{said_save};
 ghost use Rattle.nodeset.specs.NodeSet.{digit};
 ghost use Rattle.lent.specs.Check.{said_check};
 ghost use Rattle.protocol.specs.Answer.{said, said_rule, carried_out, said_refused};
@@ -23,16 +20,13 @@ use super::{
     AnswerReport, CheckReport, ComparisonReport, GivenHeight, GroupReport, ListReport, NodeReport,
     SaveReport, ValueReport,
 };
-use drawing::Drawn;
-use groups::{Group, GroupRead, HeadsRead, QuietRead};
+use groups::Group;
 use height::order::Order;
 use height::{Height, ReferenceLevel, Time};
-use histories::Listed;
-use image_reader::{NodeRead, NodeRecord};
-use image_snapshot::{CountRead, Saved};
-use lent::Checked;
-use protocol::{Answer, Rule};
-use refusal::Why;
+use histories::Extent;
+use image_snapshot::NodeRecord;
+use protocol::{Answer, Done, Rule};
+use refusal::{Refusal, Why};
 
 // Not refused.
 fn accepted() -> Why
@@ -81,7 +75,7 @@ fn done(letter: u8, set: u16, from: u32, level: ReferenceLevel) -> AnswerReport
 fn rule_letter(rule: Rule, set: u16) -> u8
     ensures { result ≡ (said_rule rule set).value.rule }
 {
-    answers::letter(Answer::Done(rule, set))
+    answers::letter(Ok(Done { rule, sent_to: set }))
 }
 
 // A rule carried out: A has the node adopted from, P the level taken.
@@ -114,232 +108,182 @@ fn refused(w: Why) -> AnswerReport
     }
 }
 
-pub fn of_answer(answer: Answer) -> AnswerReport
-    ensures { (said_report result ≡ said answer) × (result.sent ≡ ones result.sent_to) }
+impl From<Answer> for AnswerReport {
+    ghost from_gives = { λ answer report. (said_report report ≡ said answer) × (report.sent ≡ ones report.sent_to) };
+
+    fn from(answer: Answer) -> AnswerReport {
+        match answer {
+            Ok(done) => of_rule(done.rule, done.sent_to),
+            Err(why) => refused(Why::from(why)),
+        }
+    }
+}
+
+// ---- every other answer: why, and a value
+
+// What an answer says: its number and pair, and its value, or the value that stands for none.
+fn said_of<T: Drop>(answer: Result<T, Refusal>, none: T) -> (Why, T)
+    ensures { record { why = result.0; value = result.1 } ≡ said_as none answer }
 {
     match answer {
-        Answer::Done(rule, set) => of_rule(rule, set),
-        Answer::Refused(why) => refused(refusal::said(why)),
+        Ok(value) => (accepted(), value),
+        Err(why) => (Why::from(why), none),
     }
 }
 
-// ---- checks and restores
+// Checks, restores, sketches read.
+impl From<Result<(), Refusal>> for CheckReport {
+    ghost from_gives = { λ answer report. said_check_report report ≡ said_check answer };
 
-fn plain(w: Why) -> CheckReport
-    ensures { said_check_report result ≡ w }
-{
-    CheckReport {
-        number: w.number,
-        fault_at: w.u,
-        fault_with: w.v,
+    fn from(answer: Result<(), Refusal>) -> CheckReport {
+        let (why, _) = said_of(answer, ());
+        CheckReport {
+            number: why.number,
+            fault_at: why.u,
+            fault_with: why.v,
+        }
     }
 }
 
-pub fn of_check(answer: Checked) -> CheckReport
-    ensures { said_check_report result ≡ said_check answer }
-{
-    match answer {
-        Checked::Sound => plain(accepted()),
-        Checked::Refused(why) => plain(refusal::said(why)),
+// Saves and drawings.
+impl From<Result<usize, Refusal>> for SaveReport {
+    ghost from_gives = { λ answer report. said_save_report report ≡ said_as 0 answer };
+
+    fn from(answer: Result<usize, Refusal>) -> SaveReport {
+        let (why, size) = said_of(answer, 0);
+        SaveReport {
+            number: why.number,
+            fault_at: why.u,
+            fault_with: why.v,
+            size: size as u64,
+        }
     }
 }
 
-// ---- saves and drawings
+// Lists of histories.
+impl From<Result<Extent, Refusal>> for ListReport {
+    ghost from_gives = { λ answer report. said_list_report report ≡ said_as (extent 0 0) answer };
 
-fn saved(w: Why, size: usize) -> SaveReport
-    ensures { said_save_report result ≡ record { why = w; value = size } }
-{
-    SaveReport {
-        number: w.number,
-        fault_at: w.u,
-        fault_with: w.v,
-        size: size as u64,
+    fn from(answer: Result<Extent, Refusal>) -> ListReport {
+        let none = Extent {
+            bytes: 0,
+            histories: 0,
+        };
+        let (why, list) = said_of(answer, none);
+        ListReport {
+            number: why.number,
+            fault_at: why.u,
+            fault_with: why.v,
+            histories: list.histories,
+            size: list.bytes as u64,
+        }
     }
 }
 
-pub fn of_save(answer: Saved) -> SaveReport
-    ensures { said_save_report result ≡ said_save answer }
-{
-    match answer {
-        Saved::Written(size) => saved(accepted(), size),
-        Saved::Refused(why) => saved(refusal::said(why), 0),
+// Looks at one node.
+impl From<Result<NodeRecord, Refusal>> for NodeReport {
+    ghost from_gives = { λ answer report. said_node_report report ≡ said_as no_node answer };
+
+    fn from(answer: Result<NodeRecord, Refusal>) -> NodeReport {
+        let none = NodeRecord {
+            clock: Time(0),
+            neighbors: 0,
+            forming: 0,
+        };
+        let (why, node) = said_of(answer, none);
+        NodeReport {
+            number: why.number,
+            fault_at: why.u,
+            fault_with: why.v,
+            clock: node.clock.0,
+            linked: node.neighbors as u32,
+            forming: node.forming as u32,
+        }
     }
 }
 
-pub fn of_drawn(answer: Drawn) -> SaveReport
-    ensures { said_save_report result ≡ said_drawn answer }
-{
-    match answer {
-        Drawn::Written(size) => saved(accepted(), size),
-        Drawn::Refused(why) => saved(refusal::said(why), 0),
+// Looks for one number.
+impl From<Result<u32, Refusal>> for ValueReport {
+    ghost from_gives = { λ answer report. said_value_report report ≡ said_as 0 answer };
+
+    fn from(answer: Result<u32, Refusal>) -> ValueReport {
+        let (why, value) = said_of(answer, 0);
+        ValueReport {
+            number: why.number,
+            fault_at: why.u,
+            fault_with: why.v,
+            value,
+        }
     }
 }
 
-// ---- lists of histories
+impl From<Result<u16, Refusal>> for ValueReport {
+    ghost from_gives = { λ answer report. said_value_report report ≡ said_as 0 answer };
 
-fn listed(w: Why, size: usize, histories: u32) -> ListReport
-    ensures { said_list_report result ≡ record { why = w; value = extent size histories } }
-{
-    ListReport {
-        number: w.number,
-        fault_at: w.u,
-        fault_with: w.v,
-        histories: histories,
-        size: size as u64,
-    }
-}
-
-pub fn of_list(answer: Listed) -> ListReport
-    ensures { said_list_report result ≡ said_listed answer }
-{
-    match answer {
-        Listed::Written(size, histories) => listed(accepted(), size, histories),
-        Listed::Refused(why) => listed(refusal::said(why), 0, 0),
-    }
-}
-
-// ---- one node
-
-fn no_node() -> NodeRecord
-    ensures { result ≡ no_node }
-{
-    NodeRecord {
-        clock: Time(0),
-        neighbors: 0,
-        forming: 0,
-    }
-}
-
-fn looked(w: Why, node: NodeRecord) -> NodeReport
-    ensures { said_node_report result ≡ record { why = w; value = node } }
-{
-    NodeReport {
-        number: w.number,
-        fault_at: w.u,
-        fault_with: w.v,
-        clock: node.clock.0,
-        linked: node.neighbors as u32,
-        forming: node.forming as u32,
-    }
-}
-
-pub fn of_node(answer: NodeRead) -> NodeReport
-    ensures { said_node_report result ≡ said_node answer }
-{
-    match answer {
-        NodeRead::Found(node) => looked(accepted(), node),
-        NodeRead::Refused(why) => looked(refusal::said(why), no_node()),
-    }
-}
-
-// ---- one number
-
-fn valued(w: Why, value: u32) -> ValueReport
-    ensures { said_value_report result ≡ record { why = w; value = value } }
-{
-    ValueReport {
-        number: w.number,
-        fault_at: w.u,
-        fault_with: w.v,
-        value,
+    fn from(answer: Result<u16, Refusal>) -> ValueReport {
+        ValueReport::from(answer.map(u32::from))
     }
 }
 
 // 1 for true, 0 for false.
-fn digit(b: bool) -> u32
-    ensures { result ≡ digit b }
-{
-    if b {
-        return 1;
-    }
-    0
-}
+impl From<Result<bool, Refusal>> for ValueReport {
+    ghost from_gives = { λ answer report. said_value_report report ≡ said_quiet answer };
 
-pub fn of_quiet(answer: QuietRead) -> ValueReport
-    ensures { said_value_report result ≡ said_quiet answer }
-{
-    match answer {
-        QuietRead::Found(quiet) => valued(accepted(), digit(quiet)),
-        QuietRead::Refused(why) => valued(refusal::said(why), 0),
+    fn from(answer: Result<bool, Refusal>) -> ValueReport {
+        ValueReport::from(answer.map(u32::from))
     }
 }
 
-pub fn of_heads(answer: HeadsRead) -> ValueReport
-    ensures { said_value_report result ≡ said_heads answer }
-{
-    match answer {
-        HeadsRead::Found(set) => valued(accepted(), set as u32),
-        HeadsRead::Refused(why) => valued(refusal::said(why), 0),
-    }
-}
+// Looks at one group.
+impl From<Result<Group, Refusal>> for GroupReport {
+    ghost from_gives = { λ answer report. (said_group_report report ≡ said_as no_group answer) × (report.collector ≡ the_one report.collectors) };
 
-pub fn of_count(answer: CountRead) -> ValueReport
-    ensures { said_value_report result ≡ said_count answer }
-{
-    match answer {
-        CountRead::Found(n) => valued(accepted(), n),
-        CountRead::Refused(why) => valued(refusal::said(why), 0),
-    }
-}
-
-// ---- one group
-
-fn no_group() -> Group
-    ensures { result ≡ no_group }
-{
-    Group {
-        members: 0,
-        collectors: 0,
-    }
-}
-
-fn grouped(w: Why, group: Group) -> GroupReport
-    ensures { (said_group_report result ≡ record { why = w; value = group }) × (result.collector ≡ the_one result.collectors) }
-{
-    GroupReport {
-        number: w.number,
-        fault_at: w.u,
-        fault_with: w.v,
-        members: group.members as u32,
-        collectors: group.collectors as u32,
-        collector: groups::the_one(group.collectors),
-    }
-}
-
-pub fn of_group(answer: GroupRead) -> GroupReport
-    ensures { (said_group_report result ≡ said_group answer) × (result.collector ≡ the_one result.collectors) }
-{
-    match answer {
-        GroupRead::Found(group) => grouped(accepted(), group),
-        GroupRead::Refused(why) => grouped(refusal::said(why), no_group()),
+    fn from(answer: Result<Group, Refusal>) -> GroupReport {
+        let none = Group {
+            members: 0,
+            collectors: 0,
+        };
+        let (why, group) = said_of(answer, none);
+        GroupReport {
+            number: why.number,
+            fault_at: why.u,
+            fault_with: why.v,
+            members: group.members as u32,
+            collectors: group.collectors as u32,
+            collector: groups::the_one(group.collectors),
+        }
     }
 }
 
 // ---- two heights
 
-pub fn given(h: GivenHeight) -> Height
-    ensures { result ≡ height_given h }
-{
-    let level = ReferenceLevel {
-        tau: Time(h.search_time),
-        oid: h.originator,
-        r: h.bit,
-    };
-    let pair = height::words::pair_of(h.election_time, h.leader);
-    Height {
-        level,
-        delta: h.depth,
-        pair,
-        id: h.station,
+impl From<GivenHeight> for Height {
+    ghost from_gives = { λ given height. height ≡ height_given given };
+
+    fn from(h: GivenHeight) -> Height {
+        let level = ReferenceLevel {
+            tau: Time(h.search_time),
+            oid: h.originator,
+            r: h.bit,
+        };
+        let pair = height::words::pair_of(h.election_time, h.leader);
+        Height {
+            level,
+            delta: h.depth,
+            pair,
+            id: h.station,
+        }
     }
 }
 
-pub fn of_order(answer: Order) -> ComparisonReport
-    ensures { said_comparison_report result ≡ said_order answer }
-{
-    match answer {
-        Order::Less(place) => ComparisonReport { order: -1, place },
-        Order::Equal => ComparisonReport { order: 0, place: 0 },
-        Order::Greater(place) => ComparisonReport { order: 1, place },
+impl From<Order> for ComparisonReport {
+    ghost from_gives = { λ order report. said_comparison_report report ≡ said_order order };
+
+    fn from(order: Order) -> ComparisonReport {
+        match order {
+            Order::Less(place) => ComparisonReport { order: -1, place },
+            Order::Equal => ComparisonReport { order: 0, place: 0 },
+            Order::Greater(place) => ComparisonReport { order: 1, place },
+        }
     }
 }

@@ -1,8 +1,0 @@
--- `abi::reports::of_group` meets its contract: found, or refused.
-use Rattle.abi.proofs.reports.of_group.Goals as goal
-
-pub returns-in-Found : goal.returns-in-Found
-returns-in-Found c = rw (c.in-Found.is, ← c.accepted.ensures) c.grouped.ensures
-
-pub returns-in-Refused : goal.returns-in-Refused
-returns-in-Refused c = rw (c.in-Refused.is, ← c.said.ensures, ← c.no_group.ensures) c.grouped-in-Refused.ensures

@@ -1,8 +1,0 @@
--- `abi::reports::of_heads` meets its contract: found, or refused.
-use Rattle.abi.proofs.reports.of_heads.Goals as goal
-
-pub returns-in-Found : goal.returns-in-Found
-returns-in-Found c = rw (c.in-Found.is, ← c.accepted.ensures) c.valued.ensures
-
-pub returns-in-Refused : goal.returns-in-Refused
-returns-in-Refused c = rw (c.in-Refused.is, ← c.said.ensures) c.valued-in-Refused.ensures

@@ -1,8 +1,0 @@
--- `abi::reports::of_list` meets its contract: written, or refused.
-use Rattle.abi.proofs.reports.of_list.Goals as goal
-
-pub returns-in-Written : goal.returns-in-Written
-returns-in-Written c = rw (c.in-Written.is, ← c.accepted.ensures) c.listed.ensures
-
-pub returns-in-Refused : goal.returns-in-Refused
-returns-in-Refused c = rw (c.in-Refused.is, ← c.said.ensures) c.listed-in-Refused.ensures
