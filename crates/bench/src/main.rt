@@ -9,5 +9,5 @@ fn main(rt: HostRuntime) -> io::Result<()> {
     let mut reader = rt.reader();
     let got = reading::front(&mut reader, &mut input)?;
     let mut out = bench_space::output();
-    bench_space::list(&rt, &input, got, &mut out)
+    bench_space::list(&rt, &input[..got], &mut out)
 }

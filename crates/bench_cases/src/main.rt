@@ -12,7 +12,7 @@ fn case(rt: &(impl Files + Print), path: &str) -> io::Result<()> {
     let mut input = bench_space::input();
     let got = reading::front(&mut file, &mut input)?;
     let mut out = bench_space::output();
-    bench_space::list(rt, &input, got, &mut out)
+    bench_space::list(rt, &input[..got], &mut out)
 }
 
 fn heads(rt: &(impl Files + Print)) -> io::Result<()> {

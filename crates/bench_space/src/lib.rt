@@ -4,7 +4,6 @@
 
 ghost use Rattle.std.specs.Prelude.{◌≡◌, length};
 
-use bench_run::Ran;
 use std::io;
 
 pub fn input() -> [u8; 65537]
@@ -33,17 +32,10 @@ pub fn write(rt: &impl Print, out: &[u8], size: usize) -> io::Result<()> {
     Ok(())
 }
 
-fn run(rt: &impl Print, input: &[u8], out: &mut [u8]) -> io::Result<()> {
+// The listing of an input, to standard output.
+pub fn list(rt: &impl Print, input: &[u8], out: &mut [u8]) -> io::Result<()> {
     match bench_run::run(input, out) {
-        Ran::Listed(size) => write(rt, out, size),
-        Ran::Refused(_) => Ok(()),
+        Ok(size) => write(rt, out, size),
+        Err(_) => Ok(()),
     }
-}
-
-// The first `got` bytes of the input.
-pub fn list(rt: &impl Print, input: &[u8], got: usize, out: &mut [u8]) -> io::Result<()> {
-    if got <= input.len() {
-        run(rt, &input[..got], out)?;
-    }
-    Ok(())
 }

@@ -3,17 +3,10 @@ use super::room;
 use std::io;
 use std::rt::Files;
 
-fn drawn_of(rt: &impl Print, input: &[u8], size: usize) -> io::Result<()> {
-    if size <= input.len() {
-        plot_files::draw_sketch(rt, &input[..size])?;
-    }
-    Ok(())
-}
-
 fn sketch(rt: &(impl Files + Print), name: &str) -> io::Result<()> {
     let mut input = plot_files::input();
     let size = room::file(rt, name, &mut input)?;
-    drawn_of(rt, &input, size)
+    plot_files::draw_sketch(rt, &input[..size])
 }
 
 // 16: the head, the stations, the end, the bytes between, the links.
@@ -91,17 +84,10 @@ pub fn accepted(rt: &(impl Files + Print)) -> io::Result<()> {
     sketch(rt, "all_of_16")
 }
 
-fn plot_of(rt: &impl Print, input: &[u8], size: usize) -> io::Result<()> {
-    if size <= input.len() {
-        plot_files::draw_bench(rt, &input[..size])?;
-    }
-    Ok(())
-}
-
 fn plot(rt: &(impl Files + Print), name: &str) -> io::Result<()> {
     let mut input = plot_files::input();
     let size = room::file(rt, name, &mut input)?;
-    plot_of(rt, &input, size)
+    plot_files::draw_bench(rt, &input[..size])
 }
 
 // A channel up one way is no arrow; arrows turn while a search goes on and after the elections.

@@ -3,22 +3,37 @@
 // between them, and the place.
 #![tactic(auto)]
 
-mod print;
-
 use height::order::Order;
 use height::{Height, ReferenceLevel, Time};
-use std::io;
+use std::{fmt, io};
 
 // Seven numbers, the election time not negated.
 #[derive(Clone, Copy)]
-pub struct Seven {
-    pub tau: u32,
-    pub oid: u32,
-    pub r: u32,
-    pub delta: i32,
-    pub elected: u32,
-    pub lid: u32,
-    pub id: u32,
+struct Seven {
+    tau: u32,
+    oid: u32,
+    r: u32,
+    delta: i32,
+    elected: u32,
+    lid: u32,
+    id: u32,
+}
+
+// As document 01 writes a height: (τ,originator,bit,depth; negated time,leader; station).
+impl fmt::Display for Seven {
+    fn fmt<W: fmt::Write>(&self, f: &mut fmt::Formatter<W>) -> fmt::Result {
+        let Seven {
+            tau,
+            oid,
+            r,
+            delta,
+            elected,
+            lid,
+            id,
+        } = *self;
+        let negated = -i64::from(elected);
+        write!(f, "({tau},{oid},{r},{delta}; {negated},{lid}; {id})")
+    }
 }
 
 fn h(tau: u32, oid: u32, r: u32, delta: i32, elected: u32, lid: u32, id: u32) -> Seven {
@@ -49,11 +64,10 @@ fn height_of(s: Seven) -> Height {
 }
 
 fn pair(rt: &impl Print, a: Seven, b: Seven) -> io::Result<()> {
-    print::height(rt, a)?;
     match height::order::of_heights(height_of(a), height_of(b)) {
-        Order::Less(place) => print::parted(rt, b" < ", b, place),
-        Order::Equal => print::parted(rt, b" = ", b, 0),
-        Order::Greater(place) => print::parted(rt, b" > ", b, place),
+        Order::Less(place) => println!(rt; "{a} < {b} {place}"),
+        Order::Equal => println!(rt; "{a} = {b} 0"),
+        Order::Greater(place) => println!(rt; "{a} > {b} {place}"),
     }
 }
 

@@ -9,10 +9,8 @@ mod lines;
 use std::io;
 
 fn row(rt: &impl Print, n: u32, out: &mut [u8]) -> io::Result<()> {
-    let mut length: u32 = 0;
-    while length < 7 {
+    for length in 0..7 {
         lines::line(rt, n, length, out)?;
-        length += 1;
     }
     Ok(())
 }

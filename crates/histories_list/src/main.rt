@@ -5,21 +5,13 @@
 
 ghost use Rattle.std.specs.Prelude.{◌≤◌, length};
 
-use histories::Listed;
 use std::env::Env;
 use std::io;
 
-fn refused(rt: &impl Print, number: u32) -> io::Result<()> {
-    let mut line = [0u8; 32];
-    let a = text::put_bytes(&mut line, 0, b"refused ");
-    let b = text::put_number(&mut line, a, number, b'\n');
-    bench_space::write(rt, &line, b)
-}
-
 fn list(rt: &impl Print, n: u32, length: u32, out: &mut [u8]) -> io::Result<()> {
     match histories::list(n, length, out) {
-        Listed::Written(size, _) => bench_space::write(rt, out, size),
-        Listed::Refused(why) => refused(rt, refusal::number(why)),
+        Ok(extent) => bench_space::write(rt, out, extent.bytes),
+        Err(why) => println!(rt; "refused {}", why.number()),
     }
 }
 
@@ -27,10 +19,7 @@ fn list(rt: &impl Print, n: u32, length: u32, out: &mut [u8]) -> io::Result<()> 
 fn argument(env: &impl Env, i: usize, room: &mut [u8]) -> usize
     ensures { result ≤ length room.new }
 {
-    match env.arg(i, room) {
-        Ok(size) => size,
-        Err(_) => 0,
-    }
+    env.arg(i, room).unwrap_or(0)
 }
 
 fn main(rt: HostRuntime) -> io::Result<()> {
@@ -41,8 +30,8 @@ fn main(rt: HostRuntime) -> io::Result<()> {
     let mut out = bench_space::histories();
     list(
         &rt,
-        commands::number(&nodes[..n]),
-        commands::number(&events[..k]),
+        commands::number(&nodes[..n]).unwrap_or(100),
+        commands::number(&events[..k]).unwrap_or(100),
         &mut out,
     )
 }

@@ -1,60 +1,47 @@
 // Two nodes: what is refused of tables, room, images and rows, with which number, in document 01's order.
-ghost use Rattle.std.specs.Prelude.{◌≡◌, length};
-
+use super::{lines, put};
 use std::io;
 
-// The fresh image of two nodes, 69 bytes, and one byte more.
-fn bytes() -> [u8; 70]
-    ensures { 70 ≡ length result }
-{
-    [0; 70]
+// The fresh image of two nodes has 69 bytes; there is room for one more.
+const ROOM: usize = 70;
+
+#[derive(Drop)]
+struct Tables {
+    nodes: [u32; 34],
+    channels: [u32; 260],
 }
 
-fn heights() -> [u32; 14]
-    ensures { 14 ≡ length result }
-{
-    [0; 14]
+fn fresh() -> Tables {
+    let mut t = Tables {
+        nodes: [0; 34],
+        channels: [0; 260],
+    };
+    let _ = lent::fresh(2, &mut t.nodes, &mut t.channels);
+    t
 }
 
-fn put(bytes: &mut [u8], i: usize, x: u8) {
-    if i < bytes.len() {
-        bytes[i] = x;
-    }
-}
-
-fn put_word(words: &mut [u32], i: usize, x: u32) {
-    if i < words.len() {
-        words[i] = x;
-    }
+// The image of the tables, with byte i set to x.
+fn image_with(t: &Tables, i: usize, x: u8) -> [u8; ROOM] {
+    let mut out = [0; ROOM];
+    let _ = image_snapshot::save(2, &t.nodes, &t.channels, &mut out);
+    put(&mut out, i, x);
+    out
 }
 
 // ---- saves
 
-fn room(
-    rt: &impl Print,
-    n: u32,
-    nodes: &[u32],
-    channels: &[u32],
-    out: &mut [u8],
-    len: usize,
-) -> io::Result<()> {
+// A save of fresh tables of two nodes, said to be of n, with word i of the rows set to x, into so many bytes.
+fn save_with(rt: &impl Print, n: u32, i: usize, x: u32, len: usize) -> io::Result<()> {
+    let mut t = fresh();
+    put(&mut t.nodes, i, x);
+    let mut out = [0; ROOM];
     if len <= out.len() {
-        super::lines::saved(
+        lines::saved(
             rt,
-            image_snapshot::save(n, nodes, channels, &mut out[..len]),
+            image_snapshot::save(n, &t.nodes, &t.channels, &mut out[..len]),
         )?;
     }
     Ok(())
-}
-
-// A save of fresh tables of two nodes, said to be of n, with word i of the rows set to x, into so many bytes.
-fn save_with(rt: &impl Print, n: u32, i: usize, x: u32, len: usize) -> io::Result<()> {
-    let mut nodes = super::small::nodes_of_2();
-    let mut channels = super::small::channels_of_2();
-    let mut out = bytes();
-    lent::fresh(2, &mut nodes, &mut channels);
-    put_word(&mut nodes, i, x);
-    room(rt, n, &nodes, &channels, &mut out, len)
 }
 
 // 69 bytes and 70 are room enough, 68 are 14; 1 comes before 2 (node 2's view of 1, who is not in N), and 2 before 14.
@@ -76,32 +63,23 @@ fn restored(
     channels: &mut [u32],
 ) -> io::Result<()> {
     if len <= image.len() {
-        super::lines::restored(rt, image_snapshot::restore(&image[..len], nodes, channels))?;
+        lines::restored(rt, image_snapshot::restore(&image[..len], nodes, channels))?;
     }
     Ok(())
 }
 
 // The first bytes of the fresh image of two nodes, with byte i set to x, restored into tables of two nodes.
 fn restore_with(rt: &impl Print, i: usize, x: u8, len: usize) -> io::Result<()> {
-    let mut nodes = super::small::nodes_of_2();
-    let mut channels = super::small::channels_of_2();
-    let mut out = bytes();
-    lent::fresh(2, &mut nodes, &mut channels);
-    image_snapshot::save(2, &nodes, &channels, &mut out);
-    put(&mut out, i, x);
-    restored(rt, &out, len, &mut nodes, &mut channels)
+    let mut t = fresh();
+    let out = image_with(&t, i, x);
+    restored(rt, &out, len, &mut t.nodes, &mut t.channels)
 }
 
 // The same, into rows of one node.
 fn restore_misfit(rt: &impl Print, i: usize, x: u8, len: usize) -> io::Result<()> {
-    let mut few = super::small::nodes_of_1();
-    let mut nodes = super::small::nodes_of_2();
-    let mut channels = super::small::channels_of_2();
-    let mut out = bytes();
-    lent::fresh(2, &mut nodes, &mut channels);
-    image_snapshot::save(2, &nodes, &channels, &mut out);
-    put(&mut out, i, x);
-    restored(rt, &out, len, &mut few, &mut channels)
+    let mut t = fresh();
+    let out = image_with(&t, i, x);
+    restored(rt, &out, len, &mut [0; 10], &mut t.channels)
 }
 
 // The image as it is; 10; 11 for version, header length, n = 0, n = 17 and spare bits.
@@ -157,27 +135,20 @@ fn looked(
     row: &mut [u32],
     wide: usize,
 ) -> io::Result<()> {
-    if len <= image.len() {
-        if wide <= row.len() {
-            super::lines::looked(
-                rt,
-                image_snapshot::read_node(&image[..len], 2, 288, &mut row[..wide]),
-            )?;
-        }
+    if (len <= image.len()) & (wide <= row.len()) {
+        lines::looked(
+            rt,
+            image_snapshot::read_node(&image[..len], 2, 288, &mut row[..wide]),
+        )?;
     }
     Ok(())
 }
 
 fn look_with(rt: &impl Print, i: usize, x: u8, len: usize, wide: usize) -> io::Result<()> {
-    let mut nodes = super::small::nodes_of_2();
-    let mut channels = super::small::channels_of_2();
-    let mut out = bytes();
-    let mut row = heights();
-    lent::fresh(2, &mut nodes, &mut channels);
-    put_word(&mut nodes, 17, 258);
-    image_snapshot::save(2, &nodes, &channels, &mut out);
-    put(&mut out, i, x);
-    looked(rt, &out, len, &mut row, wide)
+    let mut t = fresh();
+    put(&mut t.nodes, 17, 258);
+    let out = image_with(&t, i, x);
+    looked(rt, &out, len, &mut [0; 14], wide)
 }
 
 // Clock 258 and an empty N; then 10, 11, 1, 12, 2.

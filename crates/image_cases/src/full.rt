@@ -1,31 +1,8 @@
 // Case m: sixteen nodes, each with all others in F and eight messages waiting on every channel, take 34,044 bytes.
-ghost use Rattle.std.specs.Prelude.{◌≡◌, ◌≤◌, length};
+ghost use Rattle.std.specs.Prelude.{◌≤◌};
 
+use super::{lines, put};
 use std::io;
-
-fn nodes_of_16() -> [u32; 1840]
-    ensures { 1840 ≡ length result }
-{
-    [0; 1840]
-}
-
-fn channels_of_16() -> [u32; 16640]
-    ensures { 16640 ≡ length result }
-{
-    [0; 16640]
-}
-
-fn bytes() -> [u8; 34044]
-    ensures { 34044 ≡ length result }
-{
-    [0; 34044]
-}
-
-fn put(words: &mut [u32], i: usize, x: u32) {
-    if i < words.len() {
-        words[i] = x;
-    }
-}
 
 // A message of node u, stamped 0, from word `at` on.
 fn message(words: &mut [u32], at: usize, u: u32)
@@ -40,10 +17,8 @@ fn messages(words: &mut [u32], cell: usize, u: u32)
     requires { cell ≤ 65000 }
 {
     put(words, cell, 8);
-    let mut k: usize = 0;
-    while k < 8 {
+    for k in 0..8 {
         message(words, cell + 1 + k * 8, u);
-        k += 1;
     }
 }
 
@@ -57,20 +32,16 @@ fn fill_cell(channels: &mut [u32], i: usize)
 }
 
 fn fill_channels(channels: &mut [u32]) {
-    let mut i: usize = 0;
-    while i < 256 {
+    for i in 0..256 {
         fill_cell(channels, i);
-        i += 1;
     }
 }
 
 // Every set F.
 fn fill_nodes(nodes: &mut [u32]) {
-    let mut u: usize = 0;
-    while u < 16 {
-        let all_others = nodeset::remove(65535, (u + 1) as u32);
-        put(nodes, u * 115 + 2, all_others as u32);
-        u += 1;
+    for u in 0..16 {
+        let all_others = nodeset::remove(65535, u + 1);
+        put(nodes, u as usize * 115 + 2, u32::from(all_others));
     }
 }
 
@@ -82,7 +53,7 @@ fn room(
     len: usize,
 ) -> io::Result<()> {
     if len <= out.len() {
-        super::lines::saved(
+        lines::saved(
             rt,
             image_snapshot::save(16, nodes, channels, &mut out[..len]),
         )?;
@@ -99,15 +70,15 @@ fn around(
 ) -> io::Result<()> {
     room(rt, nodes, channels, out, 34043)?;
     room(rt, nodes, channels, out, 34044)?;
-    super::lines::restored(rt, image_snapshot::restore(out, nodes, channels))?;
+    lines::restored(rt, image_snapshot::restore(out, nodes, channels))?;
     room(rt, nodes, channels, out, 34044)
 }
 
 pub fn sixteen(rt: &impl Print) -> io::Result<()> {
-    let mut nodes = nodes_of_16();
-    let mut channels = channels_of_16();
-    let mut out = bytes();
-    lent::fresh(16, &mut nodes, &mut channels);
+    let mut nodes = [0; 1840];
+    let mut channels = [0; 16640];
+    let mut out = [0; 34044];
+    let _ = lent::fresh(16, &mut nodes, &mut channels);
     fill_nodes(&mut nodes);
     fill_channels(&mut channels);
     around(rt, &mut nodes, &mut channels, &mut out)

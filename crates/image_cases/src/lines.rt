@@ -1,60 +1,36 @@
 // One line for each answer.
 // Assumes what the programs assume: the contracts of the C functions that std calls (docs/TRUST.md, 5).
-use image_snapshot::{NodeRead, Saved};
-use lent::Checked;
-use refusal::Refusal;
+use image_snapshot::NodeRecord;
+use refusal::{Refusal, Why};
 use std::io;
 
-fn digit(k: u32) -> u8 {
-    b'0' + ((k % 10) as u8)
-}
-
 // The call, two digits, and two numbers of five digits.
-fn line(rt: &impl Print, call: u8, number: u32, a: u32, b: u32) -> io::Result<()> {
-    let text = [
-        call,
-        b' ',
-        digit(number / 10),
-        digit(number),
-        b' ',
-        digit(a / 10000),
-        digit(a / 1000),
-        digit(a / 100),
-        digit(a / 10),
-        digit(a),
-        b' ',
-        digit(b / 10000),
-        digit(b / 1000),
-        digit(b / 100),
-        digit(b / 10),
-        digit(b),
-        b'\n',
-    ];
-    rt.write_all(&text)
+fn line(rt: &impl Print, call: char, number: u32, a: usize, b: u32) -> io::Result<()> {
+    println!(rt; "{call} {number:02} {a:05} {b:05}")
 }
 
-fn refused(rt: &impl Print, call: u8, why: Refusal) -> io::Result<()> {
-    let w = refusal::said(why);
-    line(rt, call, w.number, w.u, w.v)
+fn refused(rt: &impl Print, call: char, why: Refusal) -> io::Result<()> {
+    let w = Why::from(why);
+    line(rt, call, w.number, w.u as usize, w.v)
 }
 
-pub fn saved(rt: &impl Print, s: Saved) -> io::Result<()> {
-    match s {
-        Saved::Written(size) => line(rt, b'S', 0, (size % 100000) as u32, 0),
-        Saved::Refused(why) => refused(rt, b'S', why),
+pub fn saved(rt: &impl Print, r: Result<usize, Refusal>) -> io::Result<()> {
+    match r {
+        Ok(size) => line(rt, 'S', 0, size, 0),
+        Err(why) => refused(rt, 'S', why),
     }
 }
 
-pub fn restored(rt: &impl Print, r: Checked) -> io::Result<()> {
+pub fn restored(rt: &impl Print, r: Result<(), Refusal>) -> io::Result<()> {
     match r {
-        Checked::Sound => line(rt, b'R', 0, 0, 0),
-        Checked::Refused(why) => refused(rt, b'R', why),
+        Ok(()) => line(rt, 'R', 0, 0, 0),
+        Err(why) => refused(rt, 'R', why),
     }
 }
 
-pub fn looked(rt: &impl Print, r: NodeRead) -> io::Result<()> {
+pub fn looked(rt: &impl Print, r: Result<NodeRecord, Refusal>) -> io::Result<()> {
     match r {
-        NodeRead::Found(node) => line(rt, b'L', 0, node.clock.0, node.neighbors as u32),
-        NodeRead::Refused(why) => refused(rt, b'L', why),
+        Ok(node) => line(rt, 'L', 0, node.clock.0 as usize, u32::from(node.neighbors)),
+        Err(why) => refused(rt, 'L', why),
     }
 }

@@ -9,6 +9,12 @@ mod small;
 
 use std::io;
 
+fn put<T: Copy>(items: &mut [T], i: usize, x: T) {
+    if let Some(item) = items.get_mut(i) {
+        *item = x;
+    }
+}
+
 fn main(rt: HostRuntime) -> io::Result<()> {
     small::one(&rt)?;
     small::two(&rt)?;

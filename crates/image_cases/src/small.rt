@@ -1,55 +1,6 @@
 // Case m: the lengths of fresh images of 1 and 2 nodes, and node 3 of 4 at bit 928.
-ghost use Rattle.std.specs.Prelude.{◌≡◌, length};
-
+use super::lines;
 use std::io;
-
-pub fn nodes_of_1() -> [u32; 10]
-    ensures { 10 ≡ length result }
-{
-    [0; 10]
-}
-
-fn channels_of_1() -> [u32; 65]
-    ensures { 65 ≡ length result }
-{
-    [0; 65]
-}
-
-pub fn nodes_of_2() -> [u32; 34]
-    ensures { 34 ≡ length result }
-{
-    [0; 34]
-}
-
-pub fn channels_of_2() -> [u32; 260]
-    ensures { 260 ≡ length result }
-{
-    [0; 260]
-}
-
-fn nodes_of_4() -> [u32; 124]
-    ensures { 124 ≡ length result }
-{
-    [0; 124]
-}
-
-fn channels_of_4() -> [u32; 1040]
-    ensures { 1040 ≡ length result }
-{
-    [0; 1040]
-}
-
-fn row_of_4() -> [u32; 28]
-    ensures { 28 ≡ length result }
-{
-    [0; 28]
-}
-
-fn bytes() -> [u8; 234]
-    ensures { 234 ≡ length result }
-{
-    [0; 234]
-}
 
 // A fresh network of n nodes is saved.
 fn fresh(
@@ -59,29 +10,23 @@ fn fresh(
     channels: &mut [u32],
     out: &mut [u8],
 ) -> io::Result<()> {
-    lent::fresh(n, nodes, channels);
-    super::lines::saved(rt, image_snapshot::save(n, nodes, channels, out))
+    let _ = lent::fresh(n, nodes, channels);
+    lines::saved(rt, image_snapshot::save(n, nodes, channels, out))
 }
 
 // 24 bytes.
 pub fn one(rt: &impl Print) -> io::Result<()> {
-    let mut nodes = nodes_of_1();
-    let mut channels = channels_of_1();
-    let mut out = bytes();
-    fresh(rt, 1, &mut nodes, &mut channels, &mut out)
+    fresh(rt, 1, &mut [0; 10], &mut [0; 65], &mut [0; 234])
 }
 
 // 69 bytes.
 pub fn two(rt: &impl Print) -> io::Result<()> {
-    let mut nodes = nodes_of_2();
-    let mut channels = channels_of_2();
-    let mut out = bytes();
-    fresh(rt, 2, &mut nodes, &mut channels, &mut out)
+    fresh(rt, 2, &mut [0; 34], &mut [0; 260], &mut [0; 234])
 }
 
 fn look(rt: &impl Print, image: &[u8], k: u32, place: u64) -> io::Result<()> {
-    let mut row = row_of_4();
-    super::lines::looked(rt, image_snapshot::read_node(image, k, place, &mut row))
+    let mut row = [0; 28];
+    lines::looked(rt, image_snapshot::read_node(image, k, place, &mut row))
 }
 
 // Node 3 starts at bit 928: 927, 929, the starts of nodes 2 and 4, and 928 + 2^32 give 13. Nodes 0 and 5 give 3.
@@ -99,9 +44,7 @@ fn places(rt: &impl Print, image: &[u8]) -> io::Result<()> {
 
 // 234 bytes.
 pub fn four(rt: &impl Print) -> io::Result<()> {
-    let mut nodes = nodes_of_4();
-    let mut channels = channels_of_4();
-    let mut out = bytes();
-    fresh(rt, 4, &mut nodes, &mut channels, &mut out)?;
+    let mut out = [0; 234];
+    fresh(rt, 4, &mut [0; 124], &mut [0; 1040], &mut out)?;
     places(rt, &out)
 }

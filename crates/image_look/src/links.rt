@@ -23,13 +23,7 @@ fn own(n: u32, u: u32, nodes: &[u32]) -> Height
 }
 
 fn link(rt: &impl Print, from: u32, to: u32, place: u32) -> io::Result<()> {
-    print::text(rt, b"link ")?;
-    print::number(rt, from)?;
-    print::text(rt, b" to ")?;
-    print::number(rt, to)?;
-    print::text(rt, b" by ")?;
-    print::place(rt, place)?;
-    print::end(rt)
+    println!(rt; "link {from} to {to} by {place} {}", print::named(place))
 }
 
 // From the larger height to the smaller; a is u's, b is v's.
@@ -57,10 +51,8 @@ fn pair(rt: &impl Print, n: u32, u: u32, v: u32, nodes: &[u32]) -> io::Result<()
 fn of_station(rt: &impl Print, n: u32, u: u32, nodes: &[u32]) -> io::Result<()>
     requires { (n ≤ 16) × Node n u × (length nodes.now ≡ n * width n) }
 {
-    let mut v: u32 = u + 1;
-    while v <= n {
+    for v in u + 1..n + 1 {
         pair(rt, n, u, v, nodes)?;
-        v += 1;
     }
     Ok(())
 }
@@ -68,10 +60,8 @@ fn of_station(rt: &impl Print, n: u32, u: u32, nodes: &[u32]) -> io::Result<()>
 fn of_stations(rt: &impl Print, n: u32, nodes: &[u32]) -> io::Result<()>
     requires { (n ≤ 16) × (length nodes.now ≡ n * width n) }
 {
-    let mut u: u32 = 1;
-    while u <= n {
+    for u in 1..n + 1 {
         of_station(rt, n, u, nodes)?;
-        u += 1;
     }
     Ok(())
 }

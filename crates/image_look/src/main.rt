@@ -4,11 +4,10 @@
 // Assumes what the programs assume: the contracts of the C functions that std calls (docs/TRUST.md, 5).
 #![tactic(auto)]
 
-ghost use Rattle.std.specs.Prelude.{◌≤◌, ◌≡◌, length};
+ghost use Rattle.std.specs.Prelude.{◌≤◌};
 
-use image_snapshot::CountRead;
-use lent::Checked;
-use refusal::Refusal;
+use refusal::{Refusal, Why};
+use show::Plot;
 use std::env::Env;
 use std::io;
 
@@ -18,28 +17,15 @@ mod show;
 
 // The refusal's number, and the pair of a fault.
 fn refused(rt: &impl Print, showing: bool, why: Refusal) -> io::Result<()> {
+    let Why { number, u, v } = Why::from(why);
     if showing {
-        print::text(rt, b"refused ")?;
+        print!(rt; "refused ")?;
     }
-    let w = refusal::said(why);
-    print::number(rt, w.number)?;
-    if w.u != 0 {
-        print::after_space(rt, w.u)?;
-        print::after_space(rt, w.v)?;
+    if u == 0 {
+        println!(rt; "{number}")
+    } else {
+        println!(rt; "{number} {u} {v}")
     }
-    print::end(rt)
-}
-
-fn nodes_of_16() -> [u32; 1840]
-    ensures { 1840 ≡ length result }
-{
-    [0; 1840]
-}
-
-fn channels_of_16() -> [u32; 16640]
-    ensures { 16640 ≡ length result }
-{
-    [0; 16640]
 }
 
 // The image's network goes into the tables; then what they and the image show.
@@ -54,14 +40,14 @@ fn restored(
     requires { n ≤ 16 }
 {
     match image_snapshot::restore(image, nodes, channels) {
-        Checked::Refused(why) => refused(rt, showing, why),
-        Checked::Sound => {
+        Ok(()) => {
             if showing {
-                show::all(rt, n, image, nodes, channels)
+                show::all(rt, image, Plot { n, nodes, channels })
             } else {
-                print::text(rt, b"0\n")
+                println!(rt; "0")
             }
         }
+        Err(why) => refused(rt, showing, why),
     }
 }
 
@@ -69,42 +55,34 @@ fn restored(
 fn sized(rt: &impl Print, showing: bool, n: u32, image: &[u8]) -> io::Result<()>
     requires { n ≤ 16 }
 {
-    let mut nodes = nodes_of_16();
-    let mut channels = channels_of_16();
+    let mut nodes = [0; 1840];
+    let mut channels = [0; 16640];
     let k = n as usize;
     let a = k * tables::rows::row_width(n);
     let b = k * k * tables::CELL_WIDTH;
-    if a <= 1840 {
-        if b <= 16640 {
-            restored(rt, showing, n, image, &mut nodes[..a], &mut channels[..b])?;
-        }
+    if (a <= nodes.len()) & (b <= channels.len()) {
+        restored(rt, showing, n, image, &mut nodes[..a], &mut channels[..b])?;
     }
     Ok(())
 }
 
 fn look(rt: &impl Print, showing: bool, image: &[u8]) -> io::Result<()> {
     match image_snapshot::count(image) {
-        CountRead::Refused(why) => refused(rt, showing, why),
-        CountRead::Found(n) => {
+        Ok(n) => {
             if n <= 16 {
                 sized(rt, showing, n, image)?;
             }
             Ok(())
         }
+        Err(why) => refused(rt, showing, why),
     }
-}
-
-// Room for every image, and for the front of a longer input.
-fn input() -> [u8; 65536]
-    ensures { 65536 ≡ length result }
-{
-    [0; 65536]
 }
 
 fn main(rt: HostRuntime) -> io::Result<()> {
     let mut word = [0u8; 8];
     let _ = rt.arg(1, &mut word);
-    let mut space = input();
+    // room for every image, and for the front of a longer input
+    let mut space = [0; 65536];
     let mut reader = rt.reader();
     let size = reading::front(&mut reader, &mut space)?;
     look(&rt, word[0] == b's', &space[..size])

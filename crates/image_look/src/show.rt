@@ -1,26 +1,26 @@
 // What an image shows: its stations by the look at each one's place, its channels, and its groups.
-ghost use Rattle.std.specs.Prelude.{◌≤◌, ◌≡◌, length};
+ghost use Rattle.std.specs.Prelude.{◌≤◌};
 ghost use Rattle.protocol.specs.Network.{Node};
 
-use super::{links, print};
-use groups::{Group, GroupRead, HeadsRead, QuietRead};
-use image_snapshot::{NodeRead, NodeRecord};
+use super::links;
+use super::print::Members;
+use groups::Group;
+use image_snapshot::NodeRecord;
 use std::io;
 
-// ---- stations
-
-fn row_of_16() -> [u32; 112]
-    ensures { 112 ≡ length result }
-{
-    [0; 112]
+// The network of an image, in its tables.
+#[derive(Clone, Copy)]
+pub struct Plot<'a> {
+    pub n: u32,
+    pub nodes: &'a [u32],
+    pub channels: &'a [u32],
 }
 
 fn word(words: &[u32], i: usize) -> u32 {
-    if i < words.len() {
-        return words[i];
-    }
-    0
+    words.get(i).copied().unwrap_or(0)
 }
+
+// ---- stations
 
 // Where station k's record starts: the header, then the records before it.
 fn place(n: u32, k: u32) -> usize
@@ -31,19 +31,12 @@ fn place(n: u32, k: u32) -> usize
 }
 
 fn found(rt: &impl Print, k: u32, leader: u32, at: usize, node: NodeRecord) -> io::Result<()> {
-    print::text(rt, b"station ")?;
-    print::number(rt, k)?;
-    print::text(rt, b" clock ")?;
-    print::number(rt, node.clock.0)?;
-    print::text(rt, b" leader ")?;
-    print::number(rt, leader)?;
-    print::text(rt, b" place ")?;
-    rt.print(at)?;
-    print::text(rt, b" linked")?;
-    print::members(rt, node.neighbors)?;
-    print::text(rt, b" forming")?;
-    print::members(rt, node.forming)?;
-    print::end(rt)
+    let clock = node.clock.0;
+    let linked = Members(node.neighbors);
+    let forming = Members(node.forming);
+    println!(rt;
+        "station {k} clock {clock} leader {leader} place {at} linked{linked} forming{forming}"
+    )
 }
 
 // Station k, looked at where its record starts; `row` takes its heights.
@@ -53,18 +46,18 @@ fn station(rt: &impl Print, n: u32, k: u32, image: &[u8], row: &mut [u32]) -> io
 {
     let at = place(n, k);
     match image_snapshot::read_node(image, k, at as u64, row) {
-        NodeRead::Found(node) => {
+        Ok(node) => {
             let own = (k - 1) as usize * tables::HEIGHT_SIZE;
             found(rt, k, word(row, own + 5), at, node)
         }
-        NodeRead::Refused(_) => Ok(()),
+        Err(_) => Ok(()),
     }
 }
 
 fn with_row(rt: &impl Print, n: u32, k: u32, image: &[u8]) -> io::Result<()>
     requires { (n ≤ 16) × Node n k }
 {
-    let mut space = row_of_16();
+    let mut space = [0; 112];
     let size = n as usize * tables::HEIGHT_SIZE;
     station(rt, n, k, image, &mut space[..size])
 }
@@ -72,10 +65,8 @@ fn with_row(rt: &impl Print, n: u32, k: u32, image: &[u8]) -> io::Result<()>
 fn stations(rt: &impl Print, n: u32, image: &[u8]) -> io::Result<()>
     requires { n ≤ 16 }
 {
-    let mut k: u32 = 1;
-    while k <= n {
+    for k in 1..n + 1 {
         with_row(rt, n, k, image)?;
-        k += 1;
     }
     Ok(())
 }
@@ -87,107 +78,84 @@ fn channel(rt: &impl Print, n: u32, u: u32, v: u32, channels: &[u32]) -> io::Res
     requires { (n ≤ 16) × Node n u × Node n v }
 {
     if u == v {
-        return print::text(rt, b" -");
+        return print!(rt; " -");
     }
-    print::after_space(rt, word(channels, tables::rows::channel_start(n, u, v)))
+    print!(rt; " {}", word(channels, tables::rows::channel_start(n, u, v)))
 }
 
 fn channels_from(rt: &impl Print, n: u32, u: u32, channels: &[u32]) -> io::Result<()>
     requires { (n ≤ 16) × Node n u }
 {
-    print::text(rt, b"waiting from ")?;
-    print::number(rt, u)?;
-    print::text(rt, b" to each:")?;
-    let mut v: u32 = 1;
-    while v <= n {
+    print!(rt; "waiting from {u} to each:")?;
+    for v in 1..n + 1 {
         channel(rt, n, u, v, channels)?;
-        v += 1;
     }
-    print::end(rt)
+    println!(rt)
 }
 
 fn all_channels(rt: &impl Print, n: u32, channels: &[u32]) -> io::Result<()>
     requires { n ≤ 16 }
 {
-    let mut u: u32 = 1;
-    while u <= n {
+    for u in 1..n + 1 {
         channels_from(rt, n, u, channels)?;
-        u += 1;
     }
     Ok(())
 }
 
 // ---- groups
 
-fn quiet(rt: &impl Print, n: u32, nodes: &[u32], channels: &[u32]) -> io::Result<()> {
-    match groups::is_quiet(n, nodes, channels) {
-        QuietRead::Found(quiet) => {
-            if quiet {
-                print::text(rt, b"quiet yes\n")
-            } else {
-                print::text(rt, b"quiet no\n")
-            }
-        }
-        QuietRead::Refused(_) => Ok(()),
+fn quiet(rt: &impl Print, p: Plot) -> io::Result<()> {
+    match groups::is_quiet(p.n, p.nodes, p.channels) {
+        Ok(true) => println!(rt; "quiet yes"),
+        Ok(false) => println!(rt; "quiet no"),
+        Err(_) => Ok(()),
     }
 }
 
 fn group(rt: &impl Print, g: Group) -> io::Result<()> {
-    print::text(rt, b"group")?;
-    print::members(rt, g.members)?;
-    print::text(rt, b" collector")?;
-    print::members(rt, g.collectors)?;
-    print::end(rt)
+    println!(rt;
+        "group{} collector{}",
+        Members(g.members),
+        Members(g.collectors)
+    )
 }
 
-fn group_of(rt: &impl Print, n: u32, u: u32, nodes: &[u32], channels: &[u32]) -> io::Result<()> {
-    match groups::group_of(n, u, nodes, channels) {
-        GroupRead::Found(g) => group(rt, g),
-        GroupRead::Refused(_) => Ok(()),
+fn group_of(rt: &impl Print, u: u32, p: Plot) -> io::Result<()> {
+    match groups::group_of(p.n, u, p.nodes, p.channels) {
+        Ok(g) => group(rt, g),
+        Err(_) => Ok(()),
     }
 }
 
-fn groups_headed(
-    rt: &impl Print,
-    n: u32,
-    heads: u16,
-    nodes: &[u32],
-    channels: &[u32],
-) -> io::Result<()>
-    requires { n ≤ 16 }
+fn groups_headed(rt: &impl Print, heads: u16, p: Plot) -> io::Result<()>
+    requires { p.n ≤ 16 }
 {
-    let mut u: u32 = 1;
-    while u <= n {
+    for u in 1..p.n + 1 {
         if nodeset::contains(heads, u) {
-            group_of(rt, n, u, nodes, channels)?;
+            group_of(rt, u, p)?;
         }
-        u += 1;
     }
     Ok(())
 }
 
-fn all_groups(rt: &impl Print, n: u32, nodes: &[u32], channels: &[u32]) -> io::Result<()>
-    requires { n ≤ 16 }
+fn all_groups(rt: &impl Print, p: Plot) -> io::Result<()>
+    requires { p.n ≤ 16 }
 {
-    match groups::heads(n, nodes, channels) {
-        HeadsRead::Found(heads) => groups_headed(rt, n, heads, nodes, channels),
-        HeadsRead::Refused(_) => Ok(()),
+    match groups::heads(p.n, p.nodes, p.channels) {
+        Ok(heads) => groups_headed(rt, heads, p),
+        Err(_) => Ok(()),
     }
 }
 
 // ---- the whole
 
-pub fn all(rt: &impl Print, n: u32, image: &[u8], nodes: &[u32], channels: &[u32]) -> io::Result<()>
-    requires { n ≤ 16 }
+pub fn all(rt: &impl Print, image: &[u8], p: Plot) -> io::Result<()>
+    requires { p.n ≤ 16 }
 {
-    print::text(rt, b"stations ")?;
-    print::number(rt, n)?;
-    print::text(rt, b" version 1 bytes ")?;
-    rt.print(image.len())?;
-    print::end(rt)?;
-    stations(rt, n, image)?;
-    all_channels(rt, n, channels)?;
-    links::all(rt, n, nodes)?;
-    quiet(rt, n, nodes, channels)?;
-    all_groups(rt, n, nodes, channels)
+    println!(rt; "stations {} version 1 bytes {}", p.n, image.len())?;
+    stations(rt, p.n, image)?;
+    all_channels(rt, p.n, p.channels)?;
+    links::all(rt, p.n, p.nodes)?;
+    quiet(rt, p)?;
+    all_groups(rt, p)
 }

@@ -5,22 +5,17 @@ ghost use Rattle.commands.specs.Commands.{lines_of, command_of};
 ghost use Rattle.tables.specs.Tables.{tables};
 
 use commands::Command;
+use protocol::Answer;
 use std::io;
 
-fn line(text: &[u8], n: u32, nodes: &mut [u32], channels: &mut [u32])
+// The event that a line names is carried out.
+fn line(text: &[u8], n: u32, nodes: &mut [u32], channels: &mut [u32]) -> Answer
     ensures { tables nodes.new channels.new ≡ after_command_on n (tables nodes.old channels.old) (command_of text.now) }
 {
-    match commands::parse(text) {
-        Command::Up(u, v) => {
-            election::up(n, u, v, nodes, channels);
-        }
-        Command::Down(u, v) => {
-            election::down(n, u, v, nodes, channels);
-        }
-        Command::Receive(u, v) => {
-            election::receive(n, u, v, nodes, channels);
-        }
-        Command::Refused(_) => (),
+    match commands::parse(text)? {
+        Command::Up(u, v) => election::up(n, u, v, nodes, channels),
+        Command::Down(u, v) => election::down(n, u, v, nodes, channels),
+        Command::Receive(u, v) => election::receive(n, u, v, nodes, channels),
     }
 }
 
@@ -31,7 +26,7 @@ fn lines(input: &[u8], from: usize, n: u32, nodes: &mut [u32], channels: &mut [u
     let mut start = from;
     while start < input.len() {
         let end = commands::line_end(input, start);
-        line(&input[start..end], n, nodes, channels);
+        let _ = line(&input[start..end], n, nodes, channels);
         start = end + 1;
     }
 }
@@ -44,7 +39,7 @@ pub fn draw(
     nodes: &mut [u32],
     channels: &mut [u32],
 ) -> io::Result<()> {
-    lent::fresh(n, nodes, channels);
+    let _ = lent::fresh(n, nodes, channels);
     lines(input, from, n, nodes, channels);
     super::drawn::all(rt, n, nodes, channels)
 }

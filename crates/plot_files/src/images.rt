@@ -1,8 +1,4 @@
 // The plot of an image, and the image of a plot.
-ghost use Rattle.std.specs.Prelude.{◌≡◌, length};
-
-use image_snapshot::Saved;
-use lent::Checked;
 use std::io;
 
 pub fn draw(
@@ -13,16 +9,9 @@ pub fn draw(
     channels: &mut [u32],
 ) -> io::Result<()> {
     match image_snapshot::restore(image, nodes, channels) {
-        Checked::Refused(why) => super::print::refused(rt, why),
-        Checked::Sound => super::drawn::all(rt, n, nodes, channels),
+        Ok(()) => super::drawn::all(rt, n, nodes, channels),
+        Err(why) => super::print::refused(rt, why),
     }
-}
-
-// Room for every image.
-fn room() -> [u8; 34044]
-    ensures { 34044 ≡ length result }
-{
-    [0; 34044]
 }
 
 fn into(
@@ -33,12 +22,12 @@ fn into(
     out: &mut [u8],
 ) -> io::Result<()> {
     match image_snapshot::save(n, nodes, channels, out) {
-        Saved::Written(size) => super::print::front(rt, out, size),
-        Saved::Refused(why) => super::print::refused(rt, why),
+        Ok(size) => super::print::front(rt, out, size),
+        Err(why) => super::print::refused(rt, why),
     }
 }
 
 pub fn save(rt: &impl Print, n: u32, nodes: &[u32], channels: &[u32]) -> io::Result<()> {
-    let mut out = room();
-    into(rt, n, nodes, channels, &mut out)
+    // room for every image
+    into(rt, n, nodes, channels, &mut [0; 34044])
 }

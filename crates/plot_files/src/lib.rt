@@ -5,7 +5,6 @@
 
 ghost use Rattle.std.specs.Prelude.{◌≡◌, ◌≤◌, length};
 
-use image_snapshot::CountRead;
 use std::io;
 
 mod bench;
@@ -13,11 +12,6 @@ mod drawn;
 mod images;
 pub mod print;
 mod sketch;
-
-// To standard output.
-pub fn put(rt: &impl Print, bytes: &[u8]) -> io::Result<()> {
-    rt.write_all(bytes)
-}
 
 // Room for the longest input, and one byte more, to tell a longer one.
 pub fn input() -> [u8; 65537]
@@ -52,31 +46,17 @@ fn in_tables(
     }
 }
 
-fn nodes_of_16() -> [u32; 1840]
-    ensures { 1840 ≡ length result }
-{
-    [0; 1840]
-}
-
-fn channels_of_16() -> [u32; 16640]
-    ensures { 16640 ≡ length result }
-{
-    [0; 16640]
-}
-
 // Tables of n nodes at the front of those of 16, where they always fit.
 fn with_tables(rt: &impl Print, work: Work, n: u32, input: &[u8]) -> io::Result<()>
     requires { n ≤ 16 }
 {
-    let mut nodes = nodes_of_16();
-    let mut channels = channels_of_16();
+    let mut nodes = [0; 1840];
+    let mut channels = [0; 16640];
     let k = n as usize;
     let a = k * tables::rows::row_width(n);
     let b = k * k * tables::CELL_WIDTH;
-    if a <= 1840 {
-        if b <= 16640 {
-            in_tables(rt, work, n, input, &mut nodes[..a], &mut channels[..b])?;
-        }
+    if (a <= nodes.len()) & (b <= channels.len()) {
+        in_tables(rt, work, n, input, &mut nodes[..a], &mut channels[..b])?;
     }
     Ok(())
 }
@@ -94,28 +74,27 @@ fn on(rt: &impl Print, work: Work, n: u32, input: &[u8]) -> io::Result<()> {
 // The drawing of an image's plot. No image is longer than 34,044 bytes, so that of a longer input the front is refused as the whole.
 pub fn draw_image(rt: &impl Print, input: &[u8]) -> io::Result<()> {
     match image_snapshot::count(input) {
-        CountRead::Refused(why) => print::refused(rt, why),
-        CountRead::Found(n) => on(rt, Work::DrawImage, n, input),
+        Ok(n) => on(rt, Work::DrawImage, n, input),
+        Err(why) => print::refused(rt, why),
     }
 }
 
 // The drawing of a bench input's plot after all its events.
 pub fn draw_bench(rt: &impl Print, input: &[u8]) -> io::Result<()> {
     if (input.len() < 1) | (65536 < input.len()) {
-        return put(rt, b"bad plot\n");
+        return println!(rt; "bad plot");
     }
     let end = commands::line_end(input, 0);
-    let n = commands::head(&input[..end]);
-    if n == 0 {
-        return put(rt, b"bad plot\n");
-    }
+    let Some(n) = commands::head(&input[..end]) else {
+        return println!(rt; "bad plot");
+    };
     on(rt, Work::DrawBench(end + 1), n, input)
 }
 
 // A sketch longer than the room is not looked at. A text that is no sketch gets tables of no station: reading says 16.
 fn sketched(rt: &impl Print, work: Work, input: &[u8]) -> io::Result<()> {
     if 65536 < input.len() {
-        return put(rt, b"too long\n");
+        return println!(rt; "too long");
     }
     on(rt, work, drawing::nodes_of(input), input)
 }

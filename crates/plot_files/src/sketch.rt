@@ -1,5 +1,4 @@
 // The plot of a sketch.
-use lent::Checked;
 use std::io;
 
 pub fn draw(
@@ -10,8 +9,8 @@ pub fn draw(
     channels: &mut [u32],
 ) -> io::Result<()> {
     match drawing::read(text, nodes, channels) {
-        Checked::Refused(why) => super::print::refused(rt, why),
-        Checked::Sound => super::drawn::all(rt, n, nodes, channels),
+        Ok(()) => super::drawn::all(rt, n, nodes, channels),
+        Err(why) => super::print::refused(rt, why),
     }
 }
 
@@ -23,7 +22,7 @@ pub fn save(
     channels: &mut [u32],
 ) -> io::Result<()> {
     match drawing::read(text, nodes, channels) {
-        Checked::Refused(why) => super::print::refused(rt, why),
-        Checked::Sound => super::images::save(rt, n, nodes, channels),
+        Ok(()) => super::images::save(rt, n, nodes, channels),
+        Err(why) => super::print::refused(rt, why),
     }
 }

@@ -1,139 +1,106 @@
 // Two image halves joined by hand: of one plot of three stations, the start of an image saved early (header, clock and sets of station 1, 12 bytes), and
 // from there on the image saved at the end. Document 01 alone accepts it; station 1's view of 3 has a search time beyond station 1's clock.
-ghost use Rattle.std.specs.Prelude.{◌≡◌, length};
-
-use image_snapshot::Saved;
+use super::{lines, routines};
 use std::io;
 
-fn nodes() -> [u32; 72]
-    ensures { 72 ≡ length result }
-{
-    [0; 72]
+#[derive(Drop)]
+struct Tables {
+    nodes: [u32; 72],
+    channels: [u32; 585],
 }
 
-fn channels() -> [u32; 585]
-    ensures { 585 ≡ length result }
-{
-    [0; 585]
-}
+impl Tables {
+    fn fresh() -> Tables {
+        let mut t = Tables {
+            nodes: [0; 72],
+            channels: [0; 585],
+        };
+        let _ = lent::fresh(3, &mut t.nodes, &mut t.channels);
+        t
+    }
 
-fn bytes() -> [u8; 1000]
-    ensures { 1000 ≡ length result }
-{
-    [0; 1000]
-}
+    fn up(&mut self, u: u32, v: u32) {
+        let _ = election::up(3, u, v, &mut self.nodes, &mut self.channels);
+    }
 
-fn up(u: u32, v: u32, nodes: &mut [u32], channels: &mut [u32]) {
-    election::up(3, u, v, nodes, channels);
-}
+    fn receive(&mut self, u: u32, v: u32) {
+        let _ = election::receive(3, u, v, &mut self.nodes, &mut self.channels);
+    }
 
-fn receive(u: u32, v: u32, nodes: &mut [u32], channels: &mut [u32]) {
-    election::receive(3, u, v, nodes, channels);
-}
+    // 1 and 3 are linked, and 3 hears of it.
+    fn early() -> Tables {
+        let mut t = Tables::fresh();
+        t.up(3, 1);
+        t.up(1, 3);
+        t.receive(3, 1);
+        t
+    }
 
-// 1 and 3 are linked, and 3 hears of it.
-fn early_events(nodes: &mut [u32], channels: &mut [u32]) {
-    lent::fresh(3, nodes, channels);
-    up(3, 1, nodes, channels);
-    up(1, 3, nodes, channels);
-    receive(3, 1, nodes, channels);
-}
+    // They settle.
+    fn settle(&mut self) {
+        self.receive(1, 3);
+        self.receive(3, 1);
+        self.receive(1, 3);
+    }
 
-// They settle.
-fn settling(nodes: &mut [u32], channels: &mut [u32]) {
-    receive(1, 3, nodes, channels);
-    receive(3, 1, nodes, channels);
-    receive(1, 3, nodes, channels);
-}
+    // 2 and 3 are linked.
+    fn link(&mut self) {
+        self.up(3, 2);
+        self.up(2, 3);
+    }
 
-// 2 and 3 are linked.
-fn linking(nodes: &mut [u32], channels: &mut [u32]) {
-    up(3, 2, nodes, channels);
-    up(2, 3, nodes, channels);
-}
+    // And settle.
+    fn join(&mut self) {
+        self.receive(2, 3);
+        self.receive(3, 2);
+        self.receive(2, 3);
+        self.receive(3, 2);
+    }
 
-// And settle.
-fn joining(nodes: &mut [u32], channels: &mut [u32]) {
-    receive(2, 3, nodes, channels);
-    receive(3, 2, nodes, channels);
-    receive(2, 3, nodes, channels);
-    receive(3, 2, nodes, channels);
-}
+    // 3 loses 1 and finds it again, and 1 hears of the search.
+    fn search(&mut self) {
+        let _ = election::down(3, 3, 1, &mut self.nodes, &mut self.channels);
+        self.up(3, 1);
+        self.receive(3, 1);
+    }
 
-// 3 loses 1 and finds it again, and 1 hears of the search.
-fn searching(nodes: &mut [u32], channels: &mut [u32]) {
-    election::down(3, 3, 1, nodes, channels);
-    up(3, 1, nodes, channels);
-    receive(3, 1, nodes, channels);
-}
-
-fn saved(nodes: &[u32], channels: &[u32], out: &mut [u8]) -> usize {
-    match image_snapshot::save(3, nodes, channels, out) {
-        Saved::Written(size) => size,
-        Saved::Refused(_) => 0,
+    // The image, and its length.
+    fn save(&self, out: &mut [u8]) -> usize {
+        image_snapshot::save(3, &self.nodes, &self.channels, out).unwrap_or(0)
     }
 }
 
-fn line(rt: &impl Print, name: &[u8], image: &[u8], size: usize) -> io::Result<()> {
-    let mut nodes = nodes();
-    let mut channels = channels();
-    let w = super::routines::restore(image, size, &mut nodes, &mut channels);
-    super::lines::text(rt, name)?;
-    super::lines::number(rt, w.number)?;
+fn line(rt: &impl Print, name: &str, image: &[u8], size: usize) -> io::Result<()> {
+    let w = routines::restore(image, size, &mut [0; 72], &mut [0; 585]);
+    print!(rt; "{name:<38}")?;
+    lines::number(rt, w)?;
     if w.number == 18 {
-        super::lines::pair(rt, w)?;
+        lines::pair(rt, w)?;
     }
-    super::lines::text(rt, b"\n")
-}
-
-fn copy(from: &[u8], to: &mut [u8], i: usize) {
-    if i < from.len() {
-        if i < to.len() {
-            to[i] = from[i];
-        }
-    }
-}
-
-// The first 12 bytes of one image in front of the rest of another.
-fn join(early: &[u8], late: &mut [u8]) {
-    let mut i: usize = 0;
-    while i < 12 {
-        copy(early, late, i);
-        i += 1;
-    }
+    println!(rt)
 }
 
 fn save_early(out: &mut [u8]) -> usize {
-    let mut nodes = nodes();
-    let mut channels = channels();
-    early_events(&mut nodes, &mut channels);
-    saved(&nodes, &channels, out)
+    Tables::early().save(out)
 }
 
 fn save_late(out: &mut [u8]) -> usize {
-    let mut nodes = nodes();
-    let mut channels = channels();
-    early_events(&mut nodes, &mut channels);
-    settling(&mut nodes, &mut channels);
-    linking(&mut nodes, &mut channels);
-    joining(&mut nodes, &mut channels);
-    searching(&mut nodes, &mut channels);
-    saved(&nodes, &channels, out)
+    let mut t = Tables::early();
+    t.settle();
+    t.link();
+    t.join();
+    t.search();
+    t.save(out)
 }
 
 pub fn joined(rt: &impl Print) -> io::Result<()> {
-    let mut early = bytes();
-    let mut late = bytes();
+    let mut early = [0; 1000];
+    let mut late = [0; 1000];
     let before = save_early(&mut early);
     let after = save_late(&mut late);
-    super::lines::text(rt, b"halves of two images\n")?;
-    line(
-        rt,
-        b"the early image                       ",
-        &early,
-        before,
-    )?;
-    line(rt, b"the late image                        ", &late, after)?;
-    join(&early, &mut late);
-    line(rt, b"12 bytes of the early, then the late  ", &late, after)
+    println!(rt; "halves of two images")?;
+    line(rt, "the early image", &early, before)?;
+    line(rt, "the late image", &late, after)?;
+    late[..12].copy_from_slice(&early[..12]);
+    line(rt, "12 bytes of the early, then the late", &late, after)
 }

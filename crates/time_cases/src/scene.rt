@@ -1,42 +1,17 @@
 // Two linked stations, 1 with the clock 5 and 2 with the clock 9, each with one message on its way to the other: stamped 5 by 1, and 7 by 2.
 // Every time in them is 0, but for the one that a row is about.
-ghost use Rattle.std.specs.Prelude.{◌≡◌, length};
+// The bytes of the image of these two, 808 bits.
+pub const IMAGE: usize = 101;
 
-pub fn nodes() -> [u32; 34]
-    ensures { 34 ≡ length result }
-{
-    [0; 34]
-}
-
-pub fn channels() -> [u32; 260]
-    ensures { 260 ≡ length result }
-{
-    [0; 260]
-}
-
-// The image of these two: 808 bits.
-pub fn image() -> [u8; 101]
-    ensures { 101 ≡ length result }
-{
-    [0; 101]
-}
-
-// Room for their drawing.
-pub fn page() -> [u8; 2000]
-    ensures { 2000 ≡ length result }
-{
-    [0; 2000]
-}
-
-pub fn row() -> [u32; 14]
-    ensures { 14 ≡ length result }
-{
-    [0; 14]
+#[derive(Drop)]
+pub struct Tables {
+    pub nodes: [u32; 34],
+    pub channels: [u32; 260],
 }
 
 pub fn put(words: &mut [u32], i: usize, x: u32) {
-    if i < words.len() {
-        words[i] = x;
+    if let Some(word) = words.get_mut(i) {
+        *word = x;
     }
 }
 
@@ -70,8 +45,15 @@ fn cells(channels: &mut [u32]) {
     put(channels, 138, 7);
 }
 
-pub fn set(nodes: &mut [u32], channels: &mut [u32]) {
-    lent::fresh(2, nodes, channels);
-    rows(nodes);
-    cells(channels);
+impl Tables {
+    pub fn set() -> Tables {
+        let mut t = Tables {
+            nodes: [0; 34],
+            channels: [0; 260],
+        };
+        let _ = lent::fresh(2, &mut t.nodes, &mut t.channels);
+        rows(&mut t.nodes);
+        cells(&mut t.channels);
+        t
+    }
 }
