@@ -114,7 +114,7 @@ numbers() {
         {
             code = " " $0 " "
             sub(/\/\/.*/, "", code)
-            gsub(/8 - at % 8| \+ 7\)|16 < n|image\.len\(\) < 4 |32 < width|rule: 45,|4294967295u32|18446744073709551615/, "", code)
+            gsub(/8 - at % 8| \+ 7\)|16 < n|image\.len\(\) < 4 |32 < width|rule: 45,|4294967295u32|div_ceil\(8\)/, "", code)
             gsub(/n <= 16[^0-9]|[\/%] 8[^0-9]/, "", code)
             while (match(code, /[^A-Za-z0-9_][0-9][0-9A-Za-z_]*/)) {
                 n = substr(code, RSTART + 1, RLENGTH - 1)
