@@ -1,6 +1,5 @@
 // The calls for C and Rust (include/election.h): those of `lent`, `election`, `groups`, `image_snapshot`, `drawing`, `histories` and the comparison of
-// `height`, with a plain struct as the answer.
-// Every call takes anything; its contract is the equation of the call that it makes.
+// `height`, with a plain struct as the answer. Every call takes anything; its contract is the equation of the call that it makes.
 #![tactic(auto)]
 
 ghost use Rattle.std.specs.Prelude.{◌≡◌};

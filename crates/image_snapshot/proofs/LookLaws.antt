@@ -7,6 +7,7 @@ use mathlib.Core.List.{List}
 use mathlib.Core.Path.{◌≡◌, refl, ap, ◌∙◌}
 use borrow.Author.Tests.{eq-eqb, ne_eqb, leb-true, ltb-false, le-ltb, lt-ltb, le-leb}
 use lib.Dec.{leb, ltb}
+use Rattle.basics.proofs.Tests.{clash}
 use lib.ListN.{length}
 use Rattle.basics.proofs.Tests.{clash, Choice, yes!, no!, choice, and_left, and_right}
 use Rattle.bits.specs.Bits.{unpacked}
@@ -26,7 +27,7 @@ use Rattle.protocol.specs.Network.{Node, is_node}
 use Rattle.protocol.proofs.NodeLaws.{node-passes}
 use Rattle.refusal.specs.Refusal.{why, why_of}
 use Rattle.refusal.specs.declared.Refusal.{Refusal}
-use Rattle.refusal.specs.Outcome.{accepted, refused_with}
+use Rattle.refusal.specs.Outcome.{Answered, accepted, refused_with}
 use Rattle.refusal.specs.declared.Why.{Why}
 use Rattle.refusal.proofs.RefusalLaws.{never-0}
 use Rattle.tables.proofs.RowsLaws.{product_le}
@@ -49,10 +50,14 @@ node-is n k e = go (choice (ltb k 1)) (choice (ltb n k))
 
 -- ---- by what the header and the checks answer
 
-pub node-refused : (xs : List ℕ) (k place : ℕ) (row : List ℕ) (r : Refusal) → refused_with no_fields (why_of r) ≡ header_of xs
-    → unread (why_of r) row ≡ read_node_on xs k place row
+pub node-refused : (xs : List ℕ) (k place : ℕ) (row : List ℕ) {s : Answered Fields} → s ≡ header_of xs → (s.why.number ≡ 0 → ⊥) → {w : Why} → w ≡ s.why
+    → unread w row ≡ read_node_on xs k place row
 unfolding read_node_on node_headed
-node-refused xs k place row r e = rw (← e, never-0 r)
+node-refused xs k place row {s} e d q = rw (← e, ne_eqb s.why.number 0 d, q)
+
+pub node-turned-away : (xs : List ℕ) (k place : ℕ) (row : List ℕ) (r : Refusal) → refused_with no_fields (why_of r) ≡ header_of xs
+    → unread (why_of r) row ≡ read_node_on xs k place row
+node-turned-away xs k place row r e = node-refused xs k place row e (λ z. clash (eq-eqb (why_of r).number 0 z) (never-0 r)) refl
 
 pub node-headed : (xs : List ℕ) (k place : ℕ) (row : List ℕ) {f : Fields} → accepted f ≡ header_of xs
     → node_sized f.length f.n (unpacked xs) k place row ≡ read_node_on xs k place row

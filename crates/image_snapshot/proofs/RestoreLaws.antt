@@ -3,7 +3,9 @@ use Prim.Native.Nat.{ℕ, ◌≤◌}
 use native.Mathlib.Omega.{arith}
 use mathlib.Core.Bool.{true, false}
 use mathlib.Core.List.{List}
-use mathlib.Core.Path.{◌≡◌, sym, ap, ◌∙◌}
+use mathlib.Core.Path.{◌≡◌, refl, sym, ap, ◌∙◌}
+use borrow.Author.Tests.{eq-eqb, ne_eqb}
+use Rattle.basics.proofs.Tests.{clash}
 use Rattle.bits.specs.Bits.{field, unpacked}
 use Rattle.image.specs.Places.{tables_in}
 use Rattle.image_reading.specs.Examine.{examined}
@@ -22,9 +24,13 @@ use Rattle.image_snapshot.proofs.AcceptedLaws.{header-good, examined-good}
 
 -- ---- the header
 
-pub headed-refused : (xs : List ℕ) (t : Tables) (r : Refusal) → refused_with no_fields (why_of r) ≡ header_of xs → outcome (why_of r) t ≡ restore_on xs t
+pub headed-refused : (xs : List ℕ) (t : Tables) {s : Answered Fields} → s ≡ header_of xs → (s.why.number ≡ 0 → ⊥) → {w : Why} → w ≡ s.why
+    → outcome w t ≡ restore_on xs t
 unfolding restore_on restore_headed
-headed-refused xs t r e = rw (← e, never-0 r)
+headed-refused xs t {s} e d q = rw (← e, ne_eqb s.why.number 0 d, q)
+
+pub headed-turned-away : (xs : List ℕ) (t : Tables) (r : Refusal) → refused_with no_fields (why_of r) ≡ header_of xs → outcome (why_of r) t ≡ restore_on xs t
+headed-turned-away xs t r e = headed-refused xs t e (λ z. clash (eq-eqb (why_of r).number 0 z) (never-0 r)) refl
 
 pub headed-good : (xs : List ℕ) (t : Tables) {f : Fields} → accepted f ≡ header_of xs → restore_of f.n (unpacked xs) t ≡ restore_on xs t
 unfolding restore_on restore_headed
