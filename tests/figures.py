@@ -6,7 +6,8 @@ Public functions are those of the crates, or of the modules of crates, that docs
 blank lines and imports; the worked cases (`protocol` Cases) are test data and do not count.
 
 It fails, with a line for each thing that is wrong, where a definition to believe stands in a folder specs/inner/, where another stands outside
-one, where a name has two definitions, or where a function has more than seven parameters.
+one, where a name has two definitions, where a public function that callers enter requires something, or where a function has more than seven
+parameters. A module that is private and whose names are handed out by `pub use` counts as entered.
 """
 import collections
 import glob
@@ -169,18 +170,23 @@ def trusted():
     return re.findall(r"`(\w+)(?:::(\w+))?`", entered.group(1)), theorems
 
 
-def believed(specs, proofs, sources):
-    cite = Citations(specs, proofs)
-    entered, theorems = trusted()
-    found = set()
+def entries(sources, entered):
+    """The contracts of what callers enter, each with its file."""
     for crate, module in entered:
         with open(f"crates/{crate}/src/lib.rt", encoding="utf-8") as f:
-            private = re.findall(r"^mod (\w+);", f.read(), re.M)
+            text = f.read()
+        private = set(re.findall(r"^mod (\w+);", text, re.M)) - set(re.findall(r"^pub use (?:self::)?(\w+)::", text, re.M))
         for path, source in sources.items():
             file = os.path.basename(path)[:-3]
             if path.split("/")[1] == crate and file not in private and module in ("", file):
-                for contract in source.contracts:
-                    found |= cite.closure(source, None, contract.split("\n"))
+                yield from ((path, contract) for contract in source.contracts)
+
+
+def believed(specs, proofs, sources, entered, theorems):
+    cite = Citations(specs, proofs)
+    found = set()
+    for path, contract in entries(sources, entered):
+        found |= cite.closure(sources[path], None, contract.split("\n"))
     for place in theorems:
         module = proofs[place]
         for name in module.public:
@@ -192,13 +198,15 @@ def main():
     os.chdir(os.path.join(os.path.dirname(os.path.abspath(__file__)), ".."))
     specs, proofs = load()
     sources = {p: Source(p) for p in sorted(glob.glob("crates/*/src/*.rt"))}
-    believe = believed(specs, proofs, sources)
+    entered, theorems = trusted()
+    believe = believed(specs, proofs, sources, entered, theorems)
     every = {(k, n) for k, m in specs.items() if k != CASES for n in m.lines}
     inner = {x for x in every if x[0][1].startswith("inner.")}
     size = lambda xs: sum(len(specs[k].lines[n]) for k, n in xs)
 
     wrong = [f"to believe, but in specs/inner: {k[0]} {k[1]} {n}" for k, n in sorted(believe & inner)]
     wrong += [f"not to believe, but not in specs/inner: {k[0]} {k[1]} {n}" for k, n in sorted(every - believe - inner)]
+    wrong += [f"callers enter it, and it requires something: {path}" for path, contract in entries(sources, entered) if re.search(r"^\s*requires\b", contract, re.M)]
     names = collections.Counter(n for m in specs.values() for n in m.lines)
     wrong += [f"defined twice: {n}" for n, count in sorted(names.items()) if count > 1]
     for path, source in sources.items():

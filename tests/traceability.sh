@@ -1,6 +1,6 @@
 #!/usr/bin/env bash
 # Checks docs/TRACEABILITY.md against the project: every name in it exists, no cell is empty, every must-fail edit is named.
-# And what no proof says of the text: every public function of a library has a statement (but what the programs share, which prints); outside `height`
+# And what no proof says of the text: every public function and every From of a library has a statement (but what the programs share, which prints); outside `height`
 # nothing negates a time, nor makes a leader pair of a word but where a height is given as numbers; in the code that reads and writes images the widths of
 # a height and a message stand in one list, every other width in one named constant, and no place in numbers; C and Rust have one such list each.
 # A line for each thing that is wrong and exit code 1, or one line with how many names were checked.
@@ -97,7 +97,7 @@ awk '
 # ---- what is wrong
 
 bare() {
-    awk '/^ *pub (extern "C" )?fn /{ head = FILENAME ": " $0 } /^ *ensures/ { head = "" } /^ *(requires|ghost)[ *]/ { next } /^ *\{$/ || /(fn |^ *\)).*\{$/ { if (head != "") print head; head = "" }' "$@"
+    awk '/^ *pub (extern "C" )?fn /{ head = FILENAME ": " $0 } /^impl.* From</ { head = FILENAME ": " $0; next } /^ *(ensures|ghost from_gives)/ { head = "" } /^ *(requires|ghost)[ *]/ { next } /^ *\{$/ || /(fn |^ *\)).*\{$/ { if (head != "") print head; head = "" }' "$@"
 }
 
 # Widths and places in the code that reads and writes images: every number there but 0, 1 and 2 is one, unless it stands as below (the most stations, the

@@ -13,7 +13,7 @@ ghost use Rattle.groups.specs.Quiet.{said_quiet};
 ghost use Rattle.nodeset.specs.NodeSet.{digit};
 ghost use Rattle.lent.specs.Check.{said_check};
 ghost use Rattle.protocol.specs.Answer.{said, said_rule, carried_out, said_refused};
-ghost use Rattle.refusal.specs.Refusal.{why, why_of};
+ghost use Rattle.refusal.specs.Refusal.{why};
 ghost use Rattle.abi.specs.Report.{said_report, said_check_report, said_save_report, said_node_report, said_value_report, said_group_report, said_comparison_report, said_list_report, height_given};
 
 use super::{
@@ -27,21 +27,6 @@ use histories::Extent;
 use image_snapshot::NodeRecord;
 use protocol::{Answer, Done, Rule};
 use refusal::{Refusal, Why};
-
-// A reason's number and pair. Asked for one after the other and in one place, so that the compiler makes no table of jumps of them (docs/DECISIONS.md, 115).
-#[inline(never)]
-fn why(reason: Refusal) -> Why
-    ensures { result ≡ why_of reason }
-{
-    let number = reason.number();
-    if let Refusal::Fault(u, v) = reason {
-        return Why { number, u, v };
-    }
-    if let Refusal::Untimely(u, v) = reason {
-        return Why { number, u, v };
-    }
-    Why { number, u: 0, v: 0 }
-}
 
 // Not refused.
 fn accepted() -> Why
@@ -129,7 +114,7 @@ impl From<Answer> for AnswerReport {
     fn from(answer: Answer) -> AnswerReport {
         match answer {
             Ok(done) => of_rule(done.rule, done.sent_to),
-            Err(reason) => refused(why(reason)),
+            Err(reason) => refused(Why::from(reason)),
         }
     }
 }
@@ -142,7 +127,7 @@ fn said_of<T: Drop>(answer: Result<T, Refusal>, none: T) -> (Why, T)
 {
     match answer {
         Ok(value) => (accepted(), value),
-        Err(reason) => (why(reason), none),
+        Err(reason) => (Why::from(reason), none),
     }
 }
 

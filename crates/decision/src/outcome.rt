@@ -134,10 +134,8 @@ pub fn sent_to(d: Decision, v: u32) -> u16
     ensures { result ≡ set_of 16 (sends_to v d.rule d.neighbors d.forming) }
 {
     match d.rule {
-        Rule::ChannelUp => nodeset::single(v),
-        Rule::Reply => nodeset::single(v),
-        Rule::NoChange => 0,
-        Rule::Ignored => 0,
+        Rule::ChannelUp | Rule::Reply => nodeset::single(v),
+        Rule::NoChange | Rule::Ignored => 0,
         _ => nodeset::union(d.neighbors, d.forming),
     }
 }

@@ -9,8 +9,8 @@ ghost use Rattle.drawing.specs.Draw.{draw_on, drawing_length};
 ghost use Rattle.drawing.specs.Read.{nodes_of, read_on};
 ghost use Rattle.tables.specs.Tables.{tables};
 
-use lent::Sound;
 use refusal::Refusal;
+use sound::Sound;
 
 mod linking;
 mod writing;

@@ -10,8 +10,8 @@ ghost use Rattle.drawing.specs.Drawing.{points, arrow_to, arrows_of, drawing};
 ghost use Rattle.tables.specs.Tables.{tables};
 
 use dot::{Edge, lines};
-use lent::Sound;
 use refusal::Refusal;
+use sound::Sound;
 
 // Whether an arrow leads from a to b.
 fn is_arrow(plot: Sound, a: u32, b: u32) -> bool

@@ -196,10 +196,9 @@ module _ {kind : Kind} {n : ℕ} {t : Tables} {u v : ℕ} {d : Decision} (ready 
       unfolding carried
       deep = rw (home-is kind u v, update-at) (deep_is n (member d.neighbors) row u v d.clock.0 d.rule (after_is ∙ refused)).0
 
-      pub ends-deep : outcome (said_refused (why_of q)) t ≡ step_at n (event_of kind u v) t
+      pub ends-deep : outcome (said_refused (why 8 0 0)) t ≡ step_at n (event_of kind u v) t
       ends-deep =
-          rw (deep_is n (member d.neighbors) row u v d.clock.0 d.rule (after_is ∙ refused)).1
-          (step-deep n t b.fit (event_of kind u v) (between-named n t u v b kind) ready.fits (local_of n t u v d) ready.leaves intime deep)
+          step-deep n t b.fit (event_of kind u v) (between-named n t u v b kind) ready.fits (local_of n t u v d) ready.leaves intime deep
 
     module _ {own : Height} (new : r ≡ Ok own) where
       own_is : (too_deep d.rule (height_after n (member d.neighbors) row u v d.clock.0 d.rule).delta ≡ false)

@@ -49,7 +49,9 @@ pub fn finish(
     ensures { outcome (said result) (tables nodes.new channels.new) ≡ step_at n (event_of kind u v) (tables nodes.old channels.old) }
 {
     let row = tables::rows::node(n, u, nodes);
-    let own = decision::outcome::height_after(n, row, u, v, d)?;
+    let Ok(own) = decision::outcome::height_after(n, row, u, v, d) else {
+        return Err(Refusal::DeltaEnd);
+    };
     let to = decision::outcome::sent_to(d, v);
     if !super::sending::has_room(n, u, to, channels) {
         return Err(Refusal::ChannelFull);

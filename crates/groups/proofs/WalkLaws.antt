@@ -10,7 +10,7 @@ use Rattle.protocol.specs.Network.{Node, Message, up_to, own}
 use Rattle.protocol.specs.Quiet.{pair_quiet}
 use Rattle.tables.specs.Tables.{Tables}
 use Rattle.groups.specs.Groups.{collects}
-use Rattle.lent.specs.inner.Looks.{waiting_on}
+use Rattle.sound.specs.inner.Looks.{waiting_on}
 use Rattle.groups.specs.inner.Words.{in_words, SetWords}
 use Rattle.protocol.specs.Holds.{is_empty}
 use Rattle.tables.specs.Load.{load}

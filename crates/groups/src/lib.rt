@@ -12,8 +12,8 @@ ghost use Rattle.groups.specs.Heads.{heads_on};
 ghost use Rattle.groups.specs.Quiet.{said_quiet, quiet_on};
 ghost use Rattle.tables.specs.Tables.{tables};
 
-use lent::Sound;
 use refusal::Refusal;
+use sound::Sound;
 
 mod walks;
 mod words;

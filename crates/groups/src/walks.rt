@@ -9,7 +9,7 @@ ghost use Rattle.groups.specs.inner.Words.{SetWords};
 ghost use Rattle.tables.specs.Tables.{tables};
 
 use super::words;
-use lent::Sound;
+use sound::Sound;
 
 // Who is up from each node, node 1 first.
 fn fill_ups(plot: Sound, ups: &mut [u16])

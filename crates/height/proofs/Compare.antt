@@ -1,7 +1,7 @@
--- The comparison of two keys is the comparison of their beginnings and, where these are equal, of what follows.
+-- The comparison of two keys is the comparison of their beginnings and, where these are equal, of what follows; and what its answers say.
 use Prim.Native.Nat.{ℕ, ◌+◌}
-use mathlib.Core.Path.{◌≡◌, refl, ap₂, sym, ◌∙◌}
-use mathlib.Core.Bool.{true, false}
+use mathlib.Core.Path.{◌≡◌, refl, ap, ap₂, sym, ◌∙◌}
+use mathlib.Core.Bool.{Bool, true, false, not, cond, ◌&&◌}
 use mathlib.Core.Logic.{◌⊎◌, inl, inr}
 use mathlib.Core.List.{List, [], ◌∷◌, ◌++◌}
 use lib.IntN.{ℤ, pos}
@@ -9,16 +9,18 @@ use lib.ListN.{length}
 use mir.Syntax.{w64}
 use mir.Val.{SFits, to_z, of_z}
 use Rattle.std.proofs.lemmas.Bool.{cases_Bool}
-use Rattle.height.specs.Comparison.{order_of, place_of}
+use Rattle.height.specs.Comparison.{comparison, order_of, place_of, said_order}
 use Rattle.height.specs.Height.{level_key, pair_key, height_key}
-use Rattle.height.specs.Order.{before}
-use Rattle.height.specs.inner.Parts.{and_then}
+use Rattle.height.specs.Order.{before, same}
+use Rattle.height.specs.inner.Parts.{and_then, is_less, is_equal}
 use Rattle.height.specs.declared.Height.{Height}
 use Rattle.height.specs.declared.LeaderPair.{LeaderPair}
 use Rattle.height.specs.declared.ReferenceLevel.{ReferenceLevel}
+use Rattle.height.specs.declared.order.Order.TheVariants.{Less, Equal, Greater}
 use Rattle.height.specs.declared.order.Order.{Order}
 use Rattle.height.proofs.OrderLaws.{before-equal, before-append, before-asym, before-total}
 use Rattle.height.proofs.Places.{place-prefix, place-turned, place-append}
+use Rattle.height.proofs.SaidOrder.{said-order-injective}
 use Rattle.height.proofs.Signed.{read_back}
 
 -- one beginning: what follows decides
@@ -73,3 +75,26 @@ order-heights a b =
 pub order-read : {o : Order} (k : ℕ) {x y v w : ℤ} → SFits w64 v → SFits w64 w → x ≡ v → y ≡ w
     → o ≡ order_of k (to_z w64 (of_z w64 x) ∷ []) (to_z w64 (of_z w64 y) ∷ []) → o ≡ order_of k (v ∷ []) (w ∷ [])
 order-read k fv fw p q e = e ∙ ap₂ (λ (v w : ℤ). order_of k (v ∷ []) (w ∷ [])) (read_back w64 p fv) (read_back w64 q fw)
+
+-- what the answers say
+pub is-less : (k : ℕ) (xs ys : List ℤ) → is_less (order_of k xs ys) ≡ before xs ys
+unfolding order_of
+is-less k xs ys = go (before xs ys) (before ys xs)
+  where
+    go : (b d : Bool) → is_less (cond b (Less (place_of k xs ys)) (cond d (Greater (place_of k xs ys)) Equal)) ≡ b
+    go true d = refl
+    go false true = refl
+    go false false = refl
+
+pub is-equal : (k : ℕ) (xs ys : List ℤ) → is_equal (order_of k xs ys) ≡ same xs ys
+unfolding order_of same
+is-equal k xs ys = go (before xs ys) (before ys xs)
+  where
+    go : (b d : Bool) → is_equal (cond b (Less (place_of k xs ys)) (cond d (Greater (place_of k xs ys)) Equal)) ≡ (not b && not d)
+    go true d = refl
+    go false true = refl
+    go false false = refl
+
+pub said-less : (a b : Height) (o : Order) → said_order o ≡ comparison a b → is_less o ≡ before (height_key a) (height_key b)
+unfolding comparison
+said-less a b o e = ap is_less (said-order-injective o (order_of 1 (height_key a) (height_key b)) e) ∙ is-less 1 (height_key a) (height_key b)

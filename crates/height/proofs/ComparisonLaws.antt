@@ -7,14 +7,14 @@ use mathlib.Core.Path.{◌≡◌, refl, ap, sym, ◌∙◌}
 use lib.IntN.{ℤ, pos, negsuc, neg_ℤ}
 use lib.ListN.{get_or}
 use lib.Signed.{lt_z}
-use Rattle.std.specs.Ordering.{is_lt}
 use Rattle.height.specs.Comparison.{Comparison, comparison, order_of, place_of, said_order, sign_at}
 use Rattle.height.specs.Height.{level_key, pair_key, height_key}
 use Rattle.height.specs.Order.{before}
+use Rattle.height.specs.inner.Parts.{is_less}
 use Rattle.height.specs.declared.Height.{Height}
 use Rattle.height.specs.declared.order.Order.TheVariants.{Less, Equal, Greater}
 use Rattle.height.specs.declared.order.Order.{Order}
-use Rattle.height.proofs.Derived.{told, told-less}
+use Rattle.height.proofs.Compare.{is-less}
 use Rattle.height.proofs.FirstDifference.{FirstLess, Found, none, below, above, found, decided}
 use Rattle.height.proofs.Keys.{key-length, key-injective}
 use Rattle.height.proofs.OrderLaws.{before-irrefl, before-asym}
@@ -119,9 +119,9 @@ turned a b = go (comparison a b) (parts a b)
 -- less exactly where the sink test's order has it
 pub less-before : (a b : Height) → lt_z (comparison a b).sign (pos 0) ≡ before (height_key a) (height_key b)
 unfolding comparison
-less-before a b = by_sign (order_of 1 (height_key a) (height_key b)) ∙ told-less 1 (height_key a) (height_key b)
+less-before a b = by_sign (order_of 1 (height_key a) (height_key b)) ∙ is-less 1 (height_key a) (height_key b)
   where
-    by_sign : (o : Order) → lt_z (said_order o).sign (pos 0) ≡ is_lt (told o)
+    by_sign : (o : Order) → lt_z (said_order o).sign (pos 0) ≡ is_less o
     by_sign (Less k) = refl
     by_sign Equal = refl
     by_sign (Greater k) = refl

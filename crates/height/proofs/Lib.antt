@@ -1,7 +1,6 @@
 -- Laws that belong to no one function; crates above cite them too.
 pub mod Compare
 pub mod ComparisonLaws
-pub mod Derived
 pub mod FirstDifference
 pub mod Keys
 pub mod Moves

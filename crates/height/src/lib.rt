@@ -1,5 +1,5 @@
 // Heights (document 01, "What a station holds"; source 001's 7-tuples), and the clock.
-// Fields have the source's names: tau, oid, r, delta, nlts, lid, id. They stand in the order in which the derives compare them.
+// Fields have the source's names: tau, oid, r, delta, nlts, lid, id.
 #![tactic(auto)]
 
 ghost use Rattle.std.specs.Prelude.{◌≡◌, neg_ℤ, pos};
@@ -20,15 +20,15 @@ pub const LEAST_DELTA: i32 = -32768;
 pub const GREATEST_DELTA: i32 = 32767;
 
 // A search time, or a clock. It grows.
-#[derive(Clone, Copy, PartialEq, Eq, PartialOrd, Ord)]
+#[derive(Clone, Copy)]
 pub struct Time(pub u32);
 
 // A negated election time, 0 down to -4,294,967,295. It falls.
-#[derive(Clone, Copy, PartialEq, Eq, PartialOrd, Ord)]
+#[derive(Clone, Copy)]
 pub struct NegatedTime(pub i64);
 
 // The reference level: search time, originator, reflection bit.
-#[derive(Clone, Copy, PartialEq, Eq, PartialOrd, Ord)]
+#[derive(Clone, Copy)]
 pub struct ReferenceLevel {
     pub tau: Time,
     pub oid: u32,
@@ -36,14 +36,14 @@ pub struct ReferenceLevel {
 }
 
 // The leader pair: negated election time, leader. The smaller is the more recent election.
-#[derive(Clone, Copy, PartialEq, Eq, PartialOrd, Ord)]
+#[derive(Clone, Copy)]
 pub struct LeaderPair {
     pub nlts: NegatedTime,
     pub lid: u32,
 }
 
 // A height: level, depth, pair, and the node that it belongs to.
-#[derive(Clone, Copy, PartialEq, Eq, PartialOrd, Ord)]
+#[derive(Clone, Copy)]
 pub struct Height {
     pub level: ReferenceLevel,
     pub delta: i32,

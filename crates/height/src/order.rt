@@ -1,10 +1,10 @@
 // The orders of heights, levels and leader pairs: lexicographic, as signed numbers.
-// There is one comparison with places, of heights; levels and pairs are parts of it. The tests at the end ask the derived order.
+// There is one comparison, of heights; levels and pairs are parts of it. Callers use it and the tests at the end.
 ghost use Rattle.std.specs.Prelude.{◌≡◌, [], ◌∷◌, pos};
 ghost use Rattle.height.specs.Comparison.{comparison, order_of, said_order};
 ghost use Rattle.height.specs.Height.{level_key, pair_key, height_key};
 ghost use Rattle.height.specs.Order.{before, same};
-ghost use Rattle.height.specs.inner.Parts.{and_then};
+ghost use Rattle.height.specs.inner.Parts.{and_then, is_less, is_equal};
 
 use super::{Height, LeaderPair, ReferenceLevel};
 
@@ -14,6 +14,20 @@ pub enum Order {
     Less(u32),
     Equal,
     Greater(u32),
+}
+
+impl Order {
+    fn is_less(self) -> bool
+        ensures { result ≡ is_less self }
+    {
+        matches!(self, Order::Less(_))
+    }
+
+    fn is_equal(self) -> bool
+        ensures { result ≡ is_equal self }
+    {
+        matches!(self, Order::Equal)
+    }
 }
 
 // A number as a signed one.
@@ -93,29 +107,29 @@ pub fn of_heights(a: Height, b: Height) -> Order
 pub fn level_before(a: ReferenceLevel, b: ReferenceLevel) -> bool
     ensures { result ≡ before (level_key a) (level_key b) }
 {
-    a < b
+    of_levels(a, b).is_less()
 }
 
 pub fn level_same(a: ReferenceLevel, b: ReferenceLevel) -> bool
     ensures { result ≡ same (level_key a) (level_key b) }
 {
-    a == b
+    of_levels(a, b).is_equal()
 }
 
 pub fn pair_before(a: LeaderPair, b: LeaderPair) -> bool
     ensures { result ≡ before (pair_key a) (pair_key b) }
 {
-    a < b
+    of_pairs(a, b).is_less()
 }
 
 pub fn pair_same(a: LeaderPair, b: LeaderPair) -> bool
     ensures { result ≡ same (pair_key a) (pair_key b) }
 {
-    a == b
+    of_pairs(a, b).is_equal()
 }
 
 pub fn height_before(a: Height, b: Height) -> bool
     ensures { result ≡ before (height_key a) (height_key b) }
 {
-    a < b
+    of_heights(a, b).is_less()
 }

@@ -1,23 +1,20 @@
 -- Bits inside an image's bytes, and a field read from the byte on in which it starts.
 use Prim.Native.Nat.{ℕ, ◌+◌, ◌-◌, ◌*◌, ◌/◌, ◌%◌, ◌^◌, ◌≤◌, ◌<◌, min}
 use native.Mathlib.Omega.{arith}
-use mathlib.Core.Bool.{Bool, true, false, cond, not, ◌||◌}
+use mathlib.Core.Bool.{Bool, true, false, not, ◌||◌}
 use mathlib.Core.List.{List}
 use mathlib.Core.Path.{◌≡◌, sym, ap, ◌∙◌}
 use borrow.Author.Tests.{lt-ltb, le-ltb, le-leb, lt-leb, leb-true, ltb-true, ltb-false, leb-false, not-false}
-use lib.Dec.{eqb, leb, ltb}
+use lib.Dec.{leb, ltb}
 use lib.ListN.{length, take, drop}
 use lib.Seq.{drop-drop}
-use Rattle.basics.proofs.Tests.{clash, Choice, yes!, no!, choice, and_left, and_right, neither_left, neither_right}
+use Rattle.basics.proofs.Tests.{Choice, yes!, no!, choice, and_left, and_right, neither_left, neither_right}
 use Rattle.bits.specs.Bits.{number, unpacked, field}
 use Rattle.bits.proofs.Bytes.{unpacked-drop}
-use Rattle.refusal.specs.Outcome.{Answered, accepted, outcome, refused_with}
-use Rattle.refusal.specs.Refusal.{why, why_of}
-use Rattle.refusal.specs.declared.Refusal.{Refusal}
-use Rattle.refusal.proofs.RefusalLaws.{never-0}
+use Rattle.refusal.specs.Outcome.{accepted, outcome, refused_with}
+use Rattle.refusal.specs.Refusal.{why}
 use Rattle.tables.proofs.RowsLaws.{rest-is}
-use Rattle.image_reader.specs.Fields.{stands_in, take_on, moved_to, take_from}
-use Rattle.image_reader.specs.declared.Reader.{Reader}
+use Rattle.image_reader.specs.Fields.{stands_in, take_on}
 
 -- ---- bits inside the bytes
 
@@ -57,43 +54,20 @@ field-rest xs at w v h =
     h ∙ ap (λ (ys : List ℕ). number (take w (drop (at % 8) (unpacked ys)))) (rest-is (at / 8) xs)
     ∙ ap (λ (l : List ℕ). number (take w l)) (from_byte xs (at / 8) (at % 8) at e)
 
--- ---- what is said
+-- ---- what is said, and the place afterwards
 
 module _ (xs : List ℕ) (at w : ℕ) {r : Bool} (answers : r ≡ stands_in xs at w) where
   -- bits that stand inside, by the test's answer
   pub fits : not r ≡ false → (at + w < 2 ^ 64) × (at + w ≤ 8 * length xs)
   fits e = within-is xs at w (sym answers ∙ not-false r e)
 
-  pub take-refused : (ltb 32 w || not r) ≡ true → refused_with 0 (why 12 0 0) ≡ (take_on xs at w).said
+  pub take-refused : (ltb 32 w || not r) ≡ true → outcome (refused_with 0 (why 12 0 0)) at ≡ take_on xs at w
   unfolding take_on
   take-refused e = rw (← answers, e)
 
-  pub take-taken : (v : ℕ) → v ≡ field xs at w → (ltb 32 w || not r) ≡ false → accepted v ≡ (take_on xs at w).said
+  pub take-taken : (v : ℕ) → v ≡ field xs at w → (ltb 32 w || not r) ≡ false → outcome (accepted v) (at + w) ≡ take_on xs at w
   unfolding take_on
   take-taken v h e = rw (← answers, e, h)
 
   pub take-fits : (ltb 32 w || not r) ≡ false → (w ≤ 32) × ((at + w < 2 ^ 64) × (at + w ≤ 8 * length xs))
   take-fits e = (ltb-false 32 w (neither_left (ltb 32 w) (not r) e), fits (neither_right (ltb 32 w) (not r) e))
-
--- ---- on a reader: what is said shows the place afterwards
-
-module _ (at p f : ℕ) where
-  took-on : (b : Bool) (v : ℕ) → accepted v ≡ (cond b (outcome (refused_with 0 (why 12 0 0)) at) (outcome (accepted f) p)).said
-      → outcome (accepted v) p ≡ cond b (outcome (refused_with 0 (why 12 0 0)) at) (outcome (accepted f) p)
-  took-on true v e = let z : ◌≡◌ {A = ℕ} 0 12 = ap (λ (s : Answered ℕ). s.why.number) e in absurd (omega arith)
-  took-on false v e = ap (λ (s : Answered ℕ). outcome s p) e
-
-  stayed-on : (b : Bool) (r : Refusal) → refused_with 0 (why_of r) ≡ (cond b (outcome (refused_with 0 (why 12 0 0)) at) (outcome (accepted f) p)).said
-      → outcome (refused_with 0 (why_of r)) at ≡ cond b (outcome (refused_with 0 (why 12 0 0)) at) (outcome (accepted f) p)
-  stayed-on true r e = ap (λ (s : Answered ℕ). outcome s at) e
-  stayed-on false r e = clash (ap (λ (s : Answered ℕ). eqb s.why.number 0) e) (never-0 r)
-
-module _ (h : Reader) (w : ℕ) where
-  pub took : (v : ℕ) → accepted v ≡ (take_on h.image.now h.at w).said
-      → outcome (accepted v) (record { image = h.image; at = h.at + w }) ≡ take_from h w
-  unfolding take_from take_on
-  took v e = ap (moved_to h) (took-on h.at (h.at + w) _ _ v e)
-
-  pub stayed : (r : Refusal) → refused_with 0 (why_of r) ≡ (take_on h.image.now h.at w).said → outcome (refused_with 0 (why_of r)) h ≡ take_from h w
-  unfolding take_from take_on
-  stayed r e = ap (moved_to h) (stayed-on h.at (h.at + w) _ _ r e)

@@ -1,8 +1,8 @@
 // Fields at a bit place of an image's bytes, of any length: the work of `take`.
 // Every function but `field_at` takes anything.
-ghost use Rattle.std.specs.Prelude.{◌≡◌, ◌+◌, ◌*◌, ◌≤◌, length, IfOk, ◌^◌, ◌<◌};
+ghost use Rattle.std.specs.Prelude.{◌≡◌, ◌+◌, ◌*◌, ◌≤◌, length};
 ghost use Rattle.bits.specs.Bits.{field};
-ghost use Rattle.refusal.specs.Outcome.{said_as};
+ghost use Rattle.refusal.specs.Outcome.{outcome, said_as};
 ghost use Rattle.image_reader.specs.Fields.{stands_in, take_on};
 
 use refusal::Refusal;
@@ -26,12 +26,15 @@ fn field_at(image: &[u8], at: usize, width: usize) -> u32
     bits::get(&image[first..], at % 8, width)
 }
 
-// The field at a bit place.
-pub fn take_at(image: &[u8], at: usize, width: usize) -> Result<u32, Refusal>
-    ensures { (said_as 0 result ≡ (take_on image.now at width).said) × IfOk result (λ v. at + width < 2 ^ 64) }
+// The field at a bit place, which moves behind it.
+pub fn take_at(image: &[u8], at: &mut usize, width: usize) -> Result<u32, Refusal>
+    ensures { outcome (said_as 0 result) at.new ≡ take_on image.now at.old width }
 {
-    if (32 < width) | !inside(image, at, width) {
+    let start = *at;
+    if (32 < width) | !inside(image, start, width) {
         return Err(Refusal::BadEnd);
     }
-    Ok(field_at(image, at, width))
+    let field = field_at(image, start, width);
+    *at = start + width;
+    Ok(field)
 }

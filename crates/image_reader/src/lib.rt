@@ -46,9 +46,7 @@ impl<'a> Reader<'a> {
     pub fn take(&mut self, width: usize) -> Result<u32, Refusal>
         ensures { outcome (said_as 0 result) self.new ≡ take_from self.old width }
     {
-        let field = fields::take_at(self.image, self.at, width)?;
-        self.at += width;
-        Ok(field)
+        fields::take_at(self.image, &mut self.at, width)
     }
 
     // The node's record where the reader stands: the heights go into the row. n outside 1 to 16 or a row not of n heights (1), a record that

@@ -21,13 +21,13 @@ use Rattle.image_reader.specs.Fields.{stands_in}
 use Rattle.image_reader.specs.Record.{record_in, node_inside, node_on, unread}
 use Rattle.image_reading.specs.Examine.{examined}
 use Rattle.image_reading.specs.inner.Cells.{Walkable}
-use Rattle.image_reading.specs.Header.{header_of, no_fields}
+use Rattle.image_reading.specs.Header.{header_of}
 use Rattle.image_reading.specs.declared.Fields.{Fields}
 use Rattle.protocol.specs.Network.{Node, is_node}
 use Rattle.protocol.proofs.NodeLaws.{node-passes}
 use Rattle.refusal.specs.Refusal.{why, why_of}
 use Rattle.refusal.specs.declared.Refusal.{Refusal}
-use Rattle.refusal.specs.Outcome.{Answered, accepted, refused_with}
+use Rattle.refusal.specs.Outcome.{Answered, accepted}
 use Rattle.refusal.specs.declared.Why.{Why}
 use Rattle.refusal.proofs.RefusalLaws.{never-0}
 use Rattle.tables.proofs.RowsLaws.{product_le}
@@ -54,10 +54,6 @@ pub node-refused : (xs : List ℕ) (k place : ℕ) (row : List ℕ) {s : Answere
     → unread w row ≡ read_node_on xs k place row
 unfolding read_node_on node_headed
 node-refused xs k place row {s} e d q = rw (← e, ne_eqb s.why.number 0 d, q)
-
-pub node-turned-away : (xs : List ℕ) (k place : ℕ) (row : List ℕ) (r : Refusal) → refused_with no_fields (why_of r) ≡ header_of xs
-    → unread (why_of r) row ≡ read_node_on xs k place row
-node-turned-away xs k place row r e = node-refused xs k place row e (λ z. clash (eq-eqb (why_of r).number 0 z) (never-0 r)) refl
 
 pub node-headed : (xs : List ℕ) (k place : ℕ) (row : List ℕ) {f : Fields} → accepted f ≡ header_of xs
     → node_sized f.length f.n (unpacked xs) k place row ≡ read_node_on xs k place row

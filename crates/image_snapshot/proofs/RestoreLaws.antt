@@ -3,8 +3,9 @@ use Prim.Native.Nat.{ℕ, ◌≤◌}
 use native.Mathlib.Omega.{arith}
 use mathlib.Core.Bool.{true, false}
 use mathlib.Core.List.{List}
-use mathlib.Core.Path.{◌≡◌, refl, sym, ap, ◌∙◌}
+use mathlib.Core.Path.{◌≡◌, sym, ap, ◌∙◌}
 use borrow.Author.Tests.{eq-eqb, ne_eqb}
+use Rattle.std.specs.Prelude.{Result, Err}
 use Rattle.basics.proofs.Tests.{clash}
 use Rattle.bits.specs.Bits.{field, unpacked}
 use Rattle.image.specs.Places.{tables_in}
@@ -12,7 +13,7 @@ use Rattle.image_reading.specs.Examine.{examined}
 use Rattle.image_reading.specs.inner.Cells.{Walkable}
 use Rattle.image_reading.specs.Header.{header_of, no_fields}
 use Rattle.image_reading.specs.declared.Fields.{Fields}
-use Rattle.refusal.specs.Outcome.{Answered, accepted, outcome, refused_with}
+use Rattle.refusal.specs.Outcome.{Answered, accepted, outcome, said_as}
 use Rattle.refusal.specs.Refusal.{why, why_of}
 use Rattle.refusal.specs.declared.Refusal.{Refusal}
 use Rattle.refusal.specs.declared.Why.{Why}
@@ -24,13 +25,15 @@ use Rattle.image_snapshot.proofs.AcceptedLaws.{header-good, examined-good}
 
 -- ---- the header
 
+-- one that `let .. else` turns away is not good
+pub refused : {h : Result Fields Refusal} {r : Refusal} → h ≡ Err r → (said_as no_fields h).why.number ≡ 0 → ⊥
+refused {h} {r} e z =
+    clash (eq-eqb (why_of r).number 0 (ap (λ (x : Result Fields Refusal). (said_as no_fields x).why.number) (sym e) ∙ z)) (never-0 r)
+
 pub headed-refused : (xs : List ℕ) (t : Tables) {s : Answered Fields} → s ≡ header_of xs → (s.why.number ≡ 0 → ⊥) → {w : Why} → w ≡ s.why
     → outcome w t ≡ restore_on xs t
 unfolding restore_on restore_headed
 headed-refused xs t {s} e d q = rw (← e, ne_eqb s.why.number 0 d, q)
-
-pub headed-turned-away : (xs : List ℕ) (t : Tables) (r : Refusal) → refused_with no_fields (why_of r) ≡ header_of xs → outcome (why_of r) t ≡ restore_on xs t
-headed-turned-away xs t r e = headed-refused xs t e (λ z. clash (eq-eqb (why_of r).number 0 z) (never-0 r)) refl
 
 pub headed-good : (xs : List ℕ) (t : Tables) {f : Fields} → accepted f ≡ header_of xs → restore_of f.n (unpacked xs) t ≡ restore_on xs t
 unfolding restore_on restore_headed

@@ -6,4 +6,3 @@ pub mod SoundNetworks
 pub mod SoundLoads
 pub mod FilledLaws
 pub mod PutLaws
-pub mod LookLaws

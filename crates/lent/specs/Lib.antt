@@ -1,4 +1,3 @@
 -- What the checks of the lent tables answer.
 pub mod Check
 pub mod Fresh
-pub mod inner

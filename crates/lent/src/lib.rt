@@ -12,9 +12,6 @@ use refusal::Refusal;
 
 mod filling;
 mod search;
-mod sound;
-
-pub use sound::Sound;
 
 // n from 1 to 16, and the tables of the lengths for n.
 pub fn is_sized(n: u32, nodes: &[u32], channels: &[u32]) -> bool

@@ -69,12 +69,16 @@ impl Refusal {
 impl From<Refusal> for Why {
     ghost from_gives = { λ reason why. why ≡ why_of reason };
 
+    // Asked for one after the other and in one place, so that the compiler makes no table of jumps of them (docs/DECISIONS.md, 115).
+    #[inline(never)]
     fn from(reason: Refusal) -> Why {
         let number = reason.number();
-        match reason {
-            Refusal::Fault(u, v) => Why { number, u, v },
-            Refusal::Untimely(u, v) => Why { number, u, v },
-            _ => Why { number, u: 0, v: 0 },
+        if let Refusal::Fault(u, v) = reason {
+            return Why { number, u, v };
         }
+        if let Refusal::Untimely(u, v) = reason {
+            return Why { number, u, v };
+        }
+        Why { number, u: 0, v: 0 }
     }
 }

@@ -1,8 +1,9 @@
 -- `decision::outcome::sent_to` meets its contract: U and R send to v alone, Q and I to nobody, every other rule to all of both sets.
 use Prim.Native.Nat.{ℕ}
 use mathlib.Core.Bool.{Bool}
+use mathlib.Core.Logic.{◌⊎◌, inl, inr}
 use mathlib.Core.Path.{◌≡◌, refl, sym, ◌∙◌}
-use Rattle.nodeset.specs.NodeSet.{same_node}
+use Rattle.nodeset.specs.NodeSet.{same_node, set_of}
 use Rattle.nodeset.specs.inner.Operations.{in_either}
 use Rattle.nodeset.proofs.Members.{set_of-none, set_of-ext}
 use Rattle.protocol.specs.Step.{sends}
@@ -25,21 +26,22 @@ sends-all v (PropagateLargestRefLevel l) u q i r w up = refl
 sends-all v (AdoptLpIfPriority x) u q i r w up = refl
 sends-all v Reply u q i r w up = absurd (r refl)
 
-pub returns-in-ChannelUp : goal.returns-in-ChannelUp
-unfolding sends_to same_node
-returns-in-ChannelUp c = rw c.in-ChannelUp.is c.single.ensures
+module _ (v : ℕ) (rule : Rule) (N F : ℕ) where
+  alone : (rule ≡ ChannelUp) ⊎ (rule ≡ Reply) → set_of 16 (same_node v) ≡ set_of 16 (sends_to v rule N F)
+  unfolding sends_to same_node
+  alone (inl e) = rw e refl
+  alone (inr e) = rw e refl
 
-pub returns-in-Reply : goal.returns-in-Reply
-unfolding sends_to same_node
-returns-in-Reply c = rw c.in-Reply.is c.single-in-Reply.ensures
+  nobody : (rule ≡ NoChange) ⊎ (rule ≡ Ignored) → 0 ≡ set_of 16 (sends_to v rule N F)
+  unfolding sends_to
+  nobody (inl e) = rw e (sym (set_of-none 16 _ (λ w l h. refl)))
+  nobody (inr e) = rw e (sym (set_of-none 16 _ (λ w l h. refl)))
+
+pub returns-in-ChannelUp : goal.returns-in-ChannelUp
+returns-in-ChannelUp c = c.single.ensures ∙ alone _ _ _ _ c.in-ChannelUp.is
 
 pub returns-in-NoChange : goal.returns-in-NoChange
-unfolding sends_to
-returns-in-NoChange c = rw c.in-NoChange.is (sym (set_of-none 16 _ (λ w l h. refl)))
-
-pub returns-in-Ignored : goal.returns-in-Ignored
-unfolding sends_to
-returns-in-Ignored c = rw c.in-Ignored.is (sym (set_of-none 16 _ (λ w l h. refl)))
+returns-in-NoChange c = nobody _ _ _ _ c.in-NoChange.is
 
 pub returns-in_default : goal.returns-in_default
 unfolding sends_to in_either

@@ -2,7 +2,7 @@ use mathlib.Core.Path.{ap}
 use Rattle.height.specs.declared.Height.{Height}
 use native.Mathlib.Omega.{arith}
 use Rattle.groups.specs.Groups.{collectors_in}
-use Rattle.lent.proofs.LookLaws.{size}
+use Rattle.sound.proofs.LookLaws.{size}
 use Rattle.groups.proofs.LoopLaws.{gather-start, gather-next, gather-done}
 use Rattle.groups.proofs.WalkLaws.{collect-test}
 use Rattle.groups.proofs.walks.collectors.Goals as goal

@@ -1,7 +1,7 @@
 use native.Mathlib.Omega.{arith}
 use mathlib.Core.Path.{sym, ◌∙◌}
-use Rattle.lent.specs.inner.Looks.{up_set}
-use Rattle.lent.proofs.LookLaws.{size}
+use Rattle.sound.specs.inner.Looks.{up_set}
+use Rattle.sound.proofs.LookLaws.{size}
 use Rattle.groups.proofs.LinkLaws.{fill_start, fill-next, fill_done}
 use Rattle.groups.proofs.walks.fill_ups.Goals as goal
 

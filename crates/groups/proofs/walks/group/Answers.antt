@@ -1,7 +1,7 @@
 -- `groups::walks::group` meets its contract: the group over the words is the group.
 use mathlib.Core.Path.{◌∙◌}
 use Rattle.groups.proofs.LinkLaws.{link-words, group-words}
-use Rattle.lent.proofs.LookLaws.{size}
+use Rattle.sound.proofs.LookLaws.{size}
 use Rattle.groups.proofs.walks.group.Goals as goal
 
 pub group-requires : goal.group-requires

@@ -1,7 +1,7 @@
 -- `groups::walks::heads` meets its contract: the heads over the words are the heads.
 use mathlib.Core.Path.{◌∙◌}
 use Rattle.groups.proofs.LinkLaws.{link-words, heads-words}
-use Rattle.lent.proofs.LookLaws.{size}
+use Rattle.sound.proofs.LookLaws.{size}
 use Rattle.groups.proofs.walks.heads.Goals as goal
 
 pub heads-requires : goal.heads-requires

@@ -1,7 +1,7 @@
 use native.Mathlib.Omega.{arith}
 use Rattle.basics.specs.Functions.{every_pair}
 use Rattle.protocol.specs.Quiet.{quiet}
-use Rattle.lent.proofs.LookLaws.{size}
+use Rattle.sound.proofs.LookLaws.{size}
 use Rattle.groups.proofs.LoopLaws.{tested-start, tested-next, tested-done}
 use Rattle.groups.proofs.walks.is_quiet.Goals as goal
 

@@ -1,7 +1,7 @@
 -- `groups::walks::links` meets its contract: links over the words of who is up are the links.
 use mathlib.Core.Path.{refl}
 use Rattle.groups.proofs.LinkLaws.{links-of}
-use Rattle.lent.proofs.LookLaws.{size}
+use Rattle.sound.proofs.LookLaws.{size}
 use Rattle.groups.proofs.walks.links.Goals as goal
 
 pub fill_links-requires : goal.fill_links-requires

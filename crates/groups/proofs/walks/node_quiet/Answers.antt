@@ -1,6 +1,6 @@
 use native.Mathlib.Omega.{arith}
 use mathlib.Core.Path.{refl}
-use Rattle.lent.proofs.LookLaws.{size}
+use Rattle.sound.proofs.LookLaws.{size}
 use Rattle.groups.proofs.LoopLaws.{tested-start, tested-next, tested-done}
 use Rattle.groups.proofs.WalkLaws.{quiet-test}
 use Rattle.groups.proofs.walks.node_quiet.Goals as goal

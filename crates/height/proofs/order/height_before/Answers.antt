@@ -1,7 +1,6 @@
--- `height::order::height_before` meets its contract: the derived `<` is `before` of the keys.
-use mathlib.Core.Path.{◌∙◌}
-use Rattle.height.proofs.Derived.{height-less}
+-- `height::order::height_before` meets its contract: what the answer of `of_heights` says.
+use Rattle.height.proofs.Compare.{said-less}
 use Rattle.height.proofs.order.height_before.Goals as goal
 
 pub returns : goal.returns
-returns c = c.lt.ensures ∙ height-less _ _
+returns c = rw c.is_less.ensures (said-less _ _ c.of_heights.result c.of_heights.ensures)

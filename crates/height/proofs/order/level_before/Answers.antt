@@ -1,7 +1,6 @@
--- `height::order::level_before` meets its contract: the derived `<` is `before` of the keys.
-use mathlib.Core.Path.{◌∙◌}
-use Rattle.height.proofs.Derived.{level-less}
+-- `height::order::level_before` meets its contract: what the answer of `of_levels` says.
+use Rattle.height.proofs.Compare.{is-less}
 use Rattle.height.proofs.order.level_before.Goals as goal
 
 pub returns : goal.returns
-returns c = c.lt.ensures ∙ level-less _ _
+returns c = rw (c.is_less.ensures, c.of_levels.ensures) (is-less 1 _ _)

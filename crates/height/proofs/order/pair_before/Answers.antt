@@ -1,7 +1,6 @@
--- `height::order::pair_before` meets its contract: the derived `<` is `before` of the keys.
-use mathlib.Core.Path.{◌∙◌}
-use Rattle.height.proofs.Derived.{pair-less}
+-- `height::order::pair_before` meets its contract: what the answer of `of_pairs` says.
+use Rattle.height.proofs.Compare.{is-less}
 use Rattle.height.proofs.order.pair_before.Goals as goal
 
 pub returns : goal.returns
-returns c = c.lt.ensures ∙ pair-less _ _
+returns c = rw (c.is_less.ensures, c.of_pairs.ensures) (is-less 5 _ _)

@@ -1,7 +1,6 @@
--- `height::order::pair_same` meets its contract: the derived `==` is `same` of the keys.
-use mathlib.Core.Path.{◌∙◌}
-use Rattle.height.proofs.Derived.{pair-same}
+-- `height::order::pair_same` meets its contract: what the answer of `of_pairs` says.
+use Rattle.height.proofs.Compare.{is-equal}
 use Rattle.height.proofs.order.pair_same.Goals as goal
 
 pub returns : goal.returns
-returns c = c.eq.ensures ∙ pair-same _ _
+returns c = rw (c.is_equal.ensures, c.of_pairs.ensures) (is-equal 5 _ _)

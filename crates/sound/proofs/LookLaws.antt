@@ -13,7 +13,7 @@ use Rattle.protocol.specs.Network.{Node, up_to, own}
 use Rattle.tables.specs.Tables.{Tables, row_head, width, node_of, channel_of}
 use Rattle.tables.specs.inner.Fit.{Sized}
 use Rattle.lent.specs.Check.{check_on}
-use Rattle.lent.specs.inner.Looks.{up_set, waiting_on}
+use Rattle.sound.specs.inner.Looks.{up_set, waiting_on}
 use Rattle.nodeset.proofs.Members.{set_of-more, set_of-ext, none_above, within-true}
 use Rattle.tables.specs.Cell.{count, queue}
 use Rattle.tables.specs.Load.{load}

@@ -1,7 +1,10 @@
 // Tables that the check passed, and looks at the network that they hold.
+// These are leaves: the crates that answer callers make the struct of tables which they have checked, and look at nodes of it.
+#![tactic(auto)]
+
 ghost use Rattle.std.specs.Prelude.{◌≡◌};
 ghost use Rattle.lent.specs.Check.{check_on};
-ghost use Rattle.lent.specs.inner.Looks.{up_set, waiting_on};
+ghost use Rattle.sound.specs.inner.Looks.{up_set, waiting_on};
 ghost use Rattle.protocol.specs.Network.{Node, up_to, own};
 ghost use Rattle.tables.specs.Load.{load};
 ghost use Rattle.tables.specs.Tables.{tables};

@@ -1,5 +1,5 @@
-use Rattle.lent.proofs.LookLaws.{row-given, own-look}
-use Rattle.lent.proofs.sound.Sound.own.Goals as goal
+use Rattle.sound.proofs.LookLaws.{row-given, own-look}
+use Rattle.sound.proofs.Sound.own.Goals as goal
 
 pub node-row-requires : goal.node-row-requires
 node-row-requires c = row-given _ _ c.args.self.passed _ c.requires

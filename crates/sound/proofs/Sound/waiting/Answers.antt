@@ -1,7 +1,7 @@
 use mathlib.Core.Path.{ap, ◌∙◌}
 use Rattle.tables.specs.Cell.{count}
-use Rattle.lent.proofs.LookLaws.{size, waiting-look}
-use Rattle.lent.proofs.sound.Sound.waiting.Goals as goal
+use Rattle.sound.proofs.LookLaws.{size, waiting-look}
+use Rattle.sound.proofs.Sound.waiting.Goals as goal
 
 pub channel-requires : goal.channel-requires
 channel-requires c =

@@ -1,7 +1,5 @@
-use mathlib.Core.Path.{ap, ◌∙◌}
-use Rattle.tables.specs.Row.{neighbors_in, forming_in}
-use Rattle.lent.proofs.LookLaws.{row-given, neighbors-fit, forming-fit, up-look}
-use Rattle.lent.proofs.sound.Sound.up_from.Goals as goal
+use Rattle.sound.proofs.LookLaws.{row-given, neighbors-fit, forming-fit, up-at}
+use Rattle.sound.proofs.Sound.is_up.Goals as goal
 
 pub node-row-requires : goal.node-row-requires
 node-row-requires c = row-given _ _ c.args.self.passed _ c.requires
@@ -14,5 +12,5 @@ forming-forming-requires c = forming-fit _ _ c.args.self.passed _ c.requires c.n
 
 pub returns : goal.returns
 returns c =
-    let row = c.node-row.ensures.0 in
-    c.union.ensures ∙ up-look _ _ c.args.self.passed _ c.requires _ _ (c.neighbors-neighbors.ensures ∙ ap neighbors_in row) (c.forming-forming.ensures ∙ ap forming_in row)
+    up-at _ _ c.args.self.passed _ c.requires _ c.node-row.ensures.0 c.neighbors-neighbors.ensures c.forming-forming.ensures
+    c.contains.ensures c.contains-2.ensures

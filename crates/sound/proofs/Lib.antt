@@ -1,0 +1,2 @@
+-- Laws of the looks; crates above cite them.
+pub mod LookLaws
